@@ -1,0 +1,8 @@
+// A bank of queues: many first-in-first-out queues of equally many places, in one borrowed memory,
+// for every kind of record that can be copied.
+mod queues;
+mod refusals;
+mod rings;
+
+pub use queues::Bank;
+pub use refusals::Refusal;

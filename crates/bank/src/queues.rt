@@ -1,0 +1,178 @@
+ghost use mathlib.Core.Path.{_≡_};
+ghost use mathlib.Core.Bool.{true, false, cond};
+ghost use mathlib.Core.List.{[], _∷_, _++_};
+ghost use Prim.Native.Nat.{ℕ, min, _<_};
+ghost use lib.Dec.{eqb};
+ghost use lib.ListN.{length, drop, set};
+ghost use denote.Ref.{name};
+ghost use Rattle.std.specs.Results.{isOk};
+ghost use Rattle.bank.specs.Cells.{place};
+ghost use Rattle.bank.specs.Meaning.{fits, memory-of, ring-of, queues-of, places-of, queue, next-place};
+ghost use Rattle.bank.specs.Answers.{check-answer, put-answer, take-answer, count-answer};
+use crate::refusals::Refusal;
+use crate::rings::Ring;
+
+// Many queues in one borrowed memory. Queue q has the places q * places up to (q + 1) * places of the memory, and
+// its records lie in them as in a ring.
+#[derive(Drop)]
+pub struct Bank<'a, T: Copy> {
+    memory: &'a mut [T],
+    queues: u16,
+    places: u16,
+    rings: [Ring; 132],
+}
+
+impl<'a, T: Copy> Bank<'a, T> {
+    // Whether so many queues of so many places can be made in the memory.
+    pub fn check(memory: &[T], queues: u16, places: u16) -> Result<(), Refusal>
+        ensures { λ r. ⌜ r ≡ check-answer (length (now (memory .entry))) queues places ⌝ }
+    {
+        if queues < 1 || queues > 132 {
+            return Err(Refusal::Queues);
+        }
+        if places < 1 || places > 1024 {
+            return Err(Refusal::Places);
+        }
+        if memory.len() < queues as usize * places as usize {
+            return Err(Refusal::Memory);
+        }
+        Ok(())
+    }
+
+    // A bank of empty queues, which leaves the memory as it is. From what `check` refuses: no queues and no places.
+    pub fn make(memory: &'a mut [T], queues: u16, places: u16) -> Self
+        ensures queues { λ r. ⌜ queues-of r ≡ cond (isOk (check-answer (length (now (memory .entry))) queues places)) queues 0 ⌝ }
+        ensures places { λ r. ⌜ places-of r ≡ cond (isOk (check-answer (length (now (memory .entry))) queues places)) places 0 ⌝ }
+        ensures lender { λ r. ⌜ name (r .memory) ≡ name (memory .entry) ⌝ }
+        ensures memory { λ r. ⌜ memory-of r ≡ now (memory .entry) ⌝ }
+        ensures empty { λ r. ⌜ ((q : ℕ) → queue r q ≡ []) ⌝ }
+    {
+        if Bank::check(memory, queues, places).is_err() {
+            return Bank::laid_out(memory, 0, 0);
+        }
+        Bank::laid_out(memory, queues, places)
+    }
+
+    fn laid_out(memory: &'a mut [T], queues: u16, places: u16) -> Self
+        ensures queues { λ r. ⌜ r .queues ≡ queues ⌝ }
+        ensures places { λ r. ⌜ r .places ≡ places ⌝ }
+        ensures lender { λ r. ⌜ name (r .memory) ≡ name (memory .entry) ⌝ }
+        ensures memory { λ r. ⌜ memory-of r ≡ now (memory .entry) ⌝ }
+        ensures empty { λ r. ⌜ ((q : ℕ) → queue r q ≡ []) ⌝ }
+    {
+        let rings = [Ring {
+            first: 0,
+            waiting: 0,
+        }; 132];
+        Bank {
+            memory,
+            queues,
+            places,
+            rings,
+        }
+    }
+
+    // Whether the memory has room for all queues.
+    fn fits(&self) -> bool
+        ensures { λ r. ⌜ r ≡ fits (now (self .entry)) ⌝ }
+    {
+        self.queues <= 132 && self.queues as usize * self.places as usize <= self.memory.len()
+    }
+
+    // How many queues there are.
+    pub fn queues(&self) -> u16
+        ensures { λ r. ⌜ r ≡ queues-of (now (self .entry)) ⌝ }
+    {
+        if self.fits() { self.queues } else { 0 }
+    }
+
+    // How many places each queue has.
+    pub fn places(&self) -> u16
+        ensures { λ r. ⌜ r ≡ places-of (now (self .entry)) ⌝ }
+    {
+        if self.fits() { self.places } else { 0 }
+    }
+
+    // How many records wait in queue q.
+    pub fn count(&self, q: u16) -> Result<u16, Refusal>
+        ensures { λ r. ⌜ r ≡ count-answer (now (self .entry)) q ⌝ }
+    {
+        if q >= self.queues() {
+            return Err(Refusal::NoQueue);
+        }
+        Ok(self.waiting(q))
+    }
+
+    fn waiting(&self, q: u16) -> u16
+        requires { ⌜ q < queues-of (now self) ⌝ }
+        ensures value { λ r. ⌜ r ≡ min (ring-of (now (self .entry) .rings) q .waiting) (now (self .entry) .places) ⌝ }
+        ensures length { λ r. ⌜ r ≡ length (queue (now (self .entry)) q) ⌝ }
+    {
+        self.rings[q as usize].waiting.min(self.places)
+    }
+
+    // The place of the k-th record of queue q, counted from its oldest.
+    fn place(&self, q: u16, k: u16) -> usize
+        requires queue { ⌜ q < queues-of (now self) ⌝ }
+        requires within { ⌜ k < now self .places ⌝ }
+        ensures value { λ r. ⌜ r ≡ place (now (self .entry) .places) q (ring-of (now (self .entry) .rings) q .first) k ⌝ }
+        ensures bound { λ r. ⌜ r < length (memory-of (now (self .entry))) ⌝ }
+    {
+        let places = self.places as usize;
+        q as usize * places + (self.rings[q as usize].first as usize + k as usize) % places
+    }
+
+    // Adds the item as the newest record of queue q.
+    pub fn put(&mut self, q: u16, item: T) -> Result<(), Refusal>
+        ensures answer { λ r. ⌜ r ≡ put-answer (now (self .entry)) q ⌝ }
+        ensures refused { λ r. ⌜ (isOk r ≡ false → now (self .exit) ≡ now (self .entry)) ⌝ }
+        ensures queues { λ _. ⌜ queues-of (now (self .exit)) ≡ queues-of (now (self .entry)) ⌝ }
+        ensures places { λ _. ⌜ places-of (now (self .exit)) ≡ places-of (now (self .entry)) ⌝ }
+        ensures lender { λ _. ⌜ name (now (self .exit) .memory) ≡ name (now (self .entry) .memory) ⌝ }
+        ensures memory { λ r. ⌜ (isOk r ≡ true → memory-of (now (self .exit)) ≡ set (memory-of (now (self .entry))) (next-place (now (self .entry)) q) item) ⌝ }
+        ensures after { λ r. ⌜ (isOk r ≡ true → (j : ℕ) → queue (now (self .exit)) j ≡ cond (eqb j q) (queue (now (self .entry)) q ++ item ∷ []) (queue (now (self .entry)) j)) ⌝ }
+    {
+        if q >= self.queues() {
+            return Err(Refusal::NoQueue);
+        }
+        let n = self.waiting(q);
+        if n >= self.places {
+            return Err(Refusal::Full);
+        }
+        let at = self.place(q, n);
+        let first = self.rings[q as usize].first;
+        self.memory[at] = item;
+        self.rings[q as usize] = Ring {
+            first,
+            waiting: n + 1,
+        };
+        Ok(())
+    }
+
+    // Removes the oldest record of queue q and answers it.
+    pub fn take(&mut self, q: u16) -> Result<T, Refusal>
+        ensures answer { λ r. ⌜ r ≡ take-answer (now (self .entry)) q ⌝ }
+        ensures refused { λ r. ⌜ (isOk r ≡ false → now (self .exit) ≡ now (self .entry)) ⌝ }
+        ensures queues { λ _. ⌜ queues-of (now (self .exit)) ≡ queues-of (now (self .entry)) ⌝ }
+        ensures places { λ _. ⌜ places-of (now (self .exit)) ≡ places-of (now (self .entry)) ⌝ }
+        ensures lender { λ _. ⌜ name (now (self .exit) .memory) ≡ name (now (self .entry) .memory) ⌝ }
+        ensures memory { λ _. ⌜ memory-of (now (self .exit)) ≡ memory-of (now (self .entry)) ⌝ }
+        ensures after { λ r. ⌜ (isOk r ≡ true → (j : ℕ) → queue (now (self .exit)) j ≡ cond (eqb j q) (drop 1 (queue (now (self .entry)) q)) (queue (now (self .entry)) j)) ⌝ }
+    {
+        if q >= self.queues() {
+            return Err(Refusal::NoQueue);
+        }
+        let n = self.waiting(q);
+        if n == 0 {
+            return Err(Refusal::Empty);
+        }
+        let at = self.place(q, 0);
+        let item = self.memory[at];
+        let first = (self.rings[q as usize].first as usize + 1) % self.places as usize;
+        self.rings[q as usize] = Ring {
+            first: first as u16,
+            waiting: n - 1,
+        };
+        Ok(item)
+    }
+}

@@ -1,0 +1,59 @@
+ghost use mathlib.Core.Path.{_≡_};
+ghost use Rattle.std.specs.declared.option.Option.the-variants.{Some};
+ghost use Rattle.exchange.specs.Answers.{number};
+ghost use Rattle.exchange.specs.Texts.{reason, refusal-text};
+use std::fmt;
+
+// Why an exchange refuses a call.
+#[derive(Clone, Copy, PartialEq, Eq, Debug)]
+pub enum Refusal {
+    Bays,
+    Places,
+    Memory,
+    NoBay,
+    SameBay,
+    Full,
+    Empty,
+}
+
+impl Refusal {
+    // The refusal's number in the table of docs/RULES.md.
+    pub fn number(self) -> u8
+        ensures { λ r. ⌜ r ≡ number self ⌝ }
+    {
+        match self {
+            Refusal::Bays => 1,
+            Refusal::Places => 2,
+            Refusal::Memory => 3,
+            Refusal::NoBay => 4,
+            Refusal::SameBay => 5,
+            Refusal::Full => 6,
+            Refusal::Empty => 7,
+        }
+    }
+
+    // Why, in words.
+    pub fn reason(self) -> &'static str
+        ensures { λ r. ⌜ now r ≡ reason self ⌝ }
+    {
+        match self {
+            Refusal::Bays => "not 2 to 12 bays",
+            Refusal::Places => "not 1 to 1024 places in a line",
+            Refusal::Memory => "too little memory for the lines",
+            Refusal::NoBay => "no such bay",
+            Refusal::SameBay => "no line leads from a bay to itself",
+            Refusal::Full => "the line is full",
+            Refusal::Empty => "the line is empty",
+        }
+    }
+}
+
+pub impl fmt::Display for Refusal as RefusalDisplay {
+    ghost shown = { λ e. Some (refusal-text e) };
+
+    fn fmt<W: fmt::Write>(&self, f: &mut fmt::Formatter<W>) -> fmt::Result {
+        let number = self.number();
+        let reason = self.reason();
+        write!(f, "{number} {reason}")
+    }
+}

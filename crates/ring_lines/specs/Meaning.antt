@@ -1,0 +1,39 @@
+-- What ring lines stand for.
+use mathlib.Core.List.{[]}
+use mathlib.Core.Bool.{cond, _&&_, not}
+use Prim.Native.Nat.{ℕ, _+_, _-_, _*_}
+use lib.Dec.{ltb, leb, eqb}
+use Rattle.bank.specs.Meaning.{queue, queues-of, places-of}
+use Rattle.bank.specs.declared.refusals.Refusal as bank
+use Rattle.bank.specs.declared.refusals.Refusal.the-variants as queues
+use Rattle.exchange.specs.Lines.{Lines}
+use Rattle.exchange.specs.declared.refusals.Refusal.{Refusal}
+use Rattle.exchange.specs.declared.refusals.Refusal.the-variants.{Bays, Places, Memory, NoBay, Full, Empty}
+use Rattle.ring_lines.specs.declared.lines.RingLines.{RingLines}
+
+-- the queue of the line from i to j among n bays: by sender, then by receiver, leaving out the sender itself
+abbrev pub queue-of : ℕ → ℕ → ℕ → ℕ
+queue-of n i j = i * (n - 1) + cond (ltb j i) j (j - 1)
+
+module _ {K : Type 0} where
+  -- how many bays there are. Each pair has its queue in all that `make` gives; a value without them would stand for no bays
+  abbrev pub bays-of : RingLines K → ℕ
+  bays-of x = cond (leb (x .bays) 12 && leb (x .bays * (x .bays - 1)) (queues-of (x .bank))) (x .bays) 0
+
+  abbrev pub ring-lines : RingLines K → Lines K
+  ring-lines x =
+      record {
+        bays = bays-of x;
+        places = places-of (x .bank);
+        at = λ i j.
+            cond (ltb i (bays-of x) && (ltb j (bays-of x) && not (eqb i j))) (queue (x .bank) (queue-of (bays-of x) i j)) [];
+      }
+
+-- what a bank's refusal is called on a line
+abbrev pub line-refusal : bank.Refusal → Refusal
+line-refusal queues.Queues = Bays
+line-refusal queues.Places = Places
+line-refusal queues.Memory = Memory
+line-refusal queues.NoQueue = NoBay
+line-refusal queues.Full = Full
+line-refusal queues.Empty = Empty

@@ -1,0 +1,5 @@
+// Ring lines: an exchange that has for each line a ring of places of its own.
+mod lines;
+
+pub use lines::RingLines;
+pub use lines::RingLinesExchange;

@@ -1,0 +1,152 @@
+ghost use mathlib.Core.Path.{_≡_};
+ghost use mathlib.Core.Bool.{true, false, cond};
+ghost use mathlib.Core.List.{[]};
+ghost use Prim.Native.Nat.{ℕ};
+ghost use lib.ListN.{length, set};
+ghost use Rattle.std.specs.Results.{isOk};
+ghost use Rattle.std.specs.declared.result.Result.the-variants.{Ok};
+ghost use Rattle.bank.specs.Meaning.{memory-of, next-place};
+ghost use Rattle.bank.specs.Answers.{number as bank-number};
+ghost use Rattle.exchange.specs.Lines.{with-put, with-take};
+ghost use Rattle.exchange.specs.Answers.{number, check-answer, on-line, put-answer, take-answer};
+ghost use Rattle.ring_lines.specs.Meaning.{bays-of, queue-of, ring-lines, line-refusal};
+ghost use Rattle.ring_lines.specs.Laws.{ring-short, ring-outside};
+use bank::Bank;
+use exchange::Exchange;
+use exchange::Refusal;
+
+// What a bank's refusal is called on a line. Its number stays.
+fn line_refusal(refusal: bank::Refusal) -> Refusal
+    ensures { λ r. ⌜ r ≡ line-refusal refusal ⌝ ∗ ⌜ number r ≡ bank-number refusal ⌝ }
+{
+    match refusal {
+        bank::Refusal::Queues => Refusal::Bays,
+        bank::Refusal::Places => Refusal::Places,
+        bank::Refusal::Memory => Refusal::Memory,
+        bank::Refusal::NoQueue => Refusal::NoBay,
+        bank::Refusal::Full => Refusal::Full,
+        bank::Refusal::Empty => Refusal::Empty,
+    }
+}
+
+// Lines for every ordered pair of different bays, each a queue of one bank.
+#[derive(Drop)]
+pub struct RingLines<'a, K: Copy> {
+    bank: Bank<'a, K>,
+    bays: u16,
+}
+
+impl<'a, K: Copy> RingLines<'a, K> {
+    // Whether lines of so many places can be made for so many bays in the memory.
+    pub fn check(memory: &[K], bays: u16, places: u16) -> Result<(), Refusal>
+        ensures { λ r. ⌜ r ≡ check-answer (length (now (memory .entry))) bays places ⌝ }
+    {
+        if bays < 2 || bays > 12 {
+            return Err(Refusal::Bays);
+        }
+        if places < 1 || places > 1024 {
+            return Err(Refusal::Places);
+        }
+        let lines = bays as usize * (bays as usize - 1);
+        if memory.len() < lines * places as usize {
+            return Err(Refusal::Memory);
+        }
+        Ok(())
+    }
+
+    // Empty lines, which leave the memory as it is. From what `check` refuses: no bays and no places.
+    pub fn make(memory: &'a mut [K], bays: u16, places: u16) -> Self
+        ensures bays { λ r. ⌜ ring-lines r .bays ≡ cond (isOk (check-answer (length (now (memory .entry))) bays places)) bays 0 ⌝ }
+        ensures places { λ r. ⌜ ring-lines r .places ≡ cond (isOk (check-answer (length (now (memory .entry))) bays places)) places 0 ⌝ }
+        ensures memory { λ r. ⌜ memory-of (r .bank) ≡ now (memory .entry) ⌝ }
+        ensures empty { λ r. ⌜ ((i j : ℕ) → ring-lines r .at i j ≡ []) ⌝ }
+    {
+        if RingLines::check(memory, bays, places).is_err() {
+            let bank = Bank::make(memory, 0, 0);
+            return RingLines { bank, bays: 0 };
+        }
+        let bank = Bank::make(memory, bays * (bays - 1), places);
+        RingLines { bank, bays }
+    }
+
+    // How many bays there are.
+    fn size(&self) -> u16
+        ensures { λ r. ⌜ r ≡ bays-of (now (self .entry)) ⌝ }
+    {
+        let n = self.bays;
+        if n <= 12 && n * n.saturating_sub(1) <= self.bank.queues() {
+            n
+        } else {
+            0
+        }
+    }
+
+    // The queue of the line from one bay to another.
+    fn queue(&self, from: u16, to: u16) -> Result<u16, Refusal>
+        ensures { λ r. ⌜ r ≡ on-line (ring-lines (now (self .entry))) from to (Ok (queue-of (bays-of (now (self .entry))) from to)) ⌝ }
+    {
+        let n = self.size();
+        if from >= n || to >= n {
+            return Err(Refusal::NoBay);
+        }
+        if from == to {
+            return Err(Refusal::SameBay);
+        }
+        let column = if to < from { to } else { to - 1 };
+        Ok(from * (n - 1) + column)
+    }
+}
+
+pub impl<'a, K: Copy> Exchange for RingLines<'a, K> as RingLinesExchange {
+    type Message = K;
+
+    ghost lines = { ring-lines };
+
+    ghost short = { ring-short };
+
+    ghost outside = { ring-outside };
+
+    fn bays(&self) -> u16 {
+        self.size()
+    }
+
+    fn places(&self) -> u16 {
+        self.bank.places()
+    }
+
+    fn count(&self, from: u16, to: u16) -> Result<u16, Refusal> {
+        let q = self.queue(from, to)?;
+        match self.bank.count(q) {
+            Ok(n) => Ok(n),
+            Err(e) => Err(line_refusal(e)),
+        }
+    }
+
+    // Writes one place of the memory, which held no waiting message.
+    fn put(&mut self, from: u16, to: u16, message: K) -> Result<(), Refusal>
+        ensures answer { λ r. ⌜ r ≡ put-answer (ring-lines (now (self .entry))) from to ⌝ }
+        ensures refused { λ r. ⌜ (isOk r ≡ false → now (self .exit) ≡ now (self .entry)) ⌝ }
+        ensures after { λ r. ⌜ (isOk r ≡ true → ring-lines (now (self .exit)) ≡ with-put (ring-lines (now (self .entry))) from to message) ⌝ }
+        ensures memory { λ r. ⌜ (isOk r ≡ true → memory-of (now (self .exit) .bank) ≡ set (memory-of (now (self .entry) .bank)) (next-place (now (self .entry) .bank) (queue-of (bays-of (now (self .entry))) from to)) message) ⌝ }
+    {
+        let q = self.queue(from, to)?;
+        match self.bank.put(q, message) {
+            Ok(()) => Ok(()),
+            Err(e) => Err(line_refusal(e)),
+        }
+    }
+
+    // Writes no place of the memory.
+    fn take(&mut self, from: u16, to: u16) -> Result<K, Refusal>
+        ensures answer { λ r. ⌜ r ≡ take-answer (ring-lines (now (self .entry))) from to ⌝ }
+        ensures refused { λ r. ⌜ (isOk r ≡ false → now (self .exit) ≡ now (self .entry)) ⌝ }
+        ensures after { λ r. ⌜ (isOk r ≡ true → ring-lines (now (self .exit)) ≡ with-take (ring-lines (now (self .entry))) from to) ⌝ }
+        ensures memory { λ _. ⌜ memory-of (now (self .exit) .bank) ≡ memory-of (now (self .entry) .bank) ⌝ }
+    {
+        let q = self.queue(from, to)?;
+        match self.bank.take(q) {
+            Ok(message) => Ok(message),
+            Err(e) => Err(line_refusal(e)),
+        }
+    }
+}
