@@ -6,3 +6,8 @@ mod rings;
 
 pub use queues::Bank;
 pub use refusals::Refusal;
+pub use refusals::RefusalDebug;
+pub use refusals::RefusalPartialEq;
+
+#[cfg(test)]
+mod tests;

@@ -27,4 +27,4 @@ reason Empty = codes "the line is empty"
 
 -- its number, and why
 abbrev pub refusal-text : Refusal → List ℕ
-refusal-text e = decimal (number e) ++ (codes " " ++ reason e)
+refusal-text e = decimal (number e) ++ (codes ", " ++ reason e)

@@ -12,4 +12,5 @@ pub use messages::MessagePartialEq;
 pub use refusals::Refusal;
 pub use refusals::RefusalDebug;
 pub use refusals::RefusalDisplay;
+pub use refusals::RefusalError;
 pub use refusals::RefusalPartialEq;

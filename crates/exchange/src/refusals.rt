@@ -2,6 +2,7 @@ ghost use mathlib.Core.Path.{_≡_};
 ghost use Rattle.std.specs.declared.option.Option.the-variants.{Some};
 ghost use Rattle.exchange.specs.Answers.{number};
 ghost use Rattle.exchange.specs.Texts.{reason, refusal-text};
+use std::error::Error;
 use std::fmt;
 
 // Why an exchange refuses a call.
@@ -54,6 +55,9 @@ pub impl fmt::Display for Refusal as RefusalDisplay {
     fn fmt<W: fmt::Write>(&self, f: &mut fmt::Formatter<W>) -> fmt::Result {
         let number = self.number();
         let reason = self.reason();
-        write!(f, "{number} {reason}")
+        write!(f, "{number}, {reason}")
     }
 }
+
+// A refusal goes up by `?` like any other error.
+pub impl Error for Refusal as RefusalError {}

@@ -3,3 +3,6 @@ mod lines;
 
 pub use lines::RingLines;
 pub use lines::RingLinesExchange;
+
+#[cfg(test)]
+mod tests;
