@@ -8,7 +8,8 @@ ghost use denote.Ref.{name};
 ghost use Rattle.std.specs.Results.{isOk};
 ghost use Rattle.bank.specs.Cells.{place};
 ghost use Rattle.bank.specs.Meaning.{fits, memory-of, ring-of, queues-of, places-of, queue, next-place};
-ghost use Rattle.bank.specs.Answers.{check-answer, put-answer, take-answer, count-answer};
+ghost use Rattle.std.specs.declared.result.Result.the-variants.{Ok};
+ghost use Rattle.bank.specs.Answers.{check-answer, put-answer, oldest, take-answer, count-answer};
 use crate::refusals::Refusal;
 use crate::rings::Ring;
 
@@ -135,10 +136,24 @@ impl<'a, T: Copy> Bank<'a, T> {
         if q >= self.queues() {
             return Err(Refusal::NoQueue);
         }
-        let n = self.waiting(q);
-        if n >= self.places {
+        if self.waiting(q) >= self.places() {
             return Err(Refusal::Full);
         }
+        self.append(q, item);
+        Ok(())
+    }
+
+    // Writes the item to the place behind the newest record of queue q.
+    fn append(&mut self, q: u16, item: T)
+        requires queue { ⌜ q < queues-of (now self) ⌝ }
+        requires room { ⌜ length (queue (now self) q) < places-of (now self) ⌝ }
+        ensures queues { λ _. ⌜ queues-of (now (self .exit)) ≡ queues-of (now (self .entry)) ⌝ }
+        ensures places { λ _. ⌜ places-of (now (self .exit)) ≡ places-of (now (self .entry)) ⌝ }
+        ensures lender { λ _. ⌜ name (now (self .exit) .memory) ≡ name (now (self .entry) .memory) ⌝ }
+        ensures memory { λ _. ⌜ memory-of (now (self .exit)) ≡ set (memory-of (now (self .entry))) (next-place (now (self .entry)) q) item ⌝ }
+        ensures after { λ _. ⌜ ((j : ℕ) → queue (now (self .exit)) j ≡ cond (eqb j q) (queue (now (self .entry)) q ++ item ∷ []) (queue (now (self .entry)) j)) ⌝ }
+    {
+        let n = self.waiting(q);
         let at = self.place(q, n);
         let first = self.rings[q as usize].first;
         self.memory[at] = item;
@@ -146,7 +161,6 @@ impl<'a, T: Copy> Bank<'a, T> {
             first,
             waiting: n + 1,
         };
-        Ok(())
     }
 
     // Removes the oldest record of queue q and answers it.
@@ -162,17 +176,31 @@ impl<'a, T: Copy> Bank<'a, T> {
         if q >= self.queues() {
             return Err(Refusal::NoQueue);
         }
-        let n = self.waiting(q);
-        if n == 0 {
+        if self.waiting(q) == 0 {
             return Err(Refusal::Empty);
         }
+        Ok(self.remove_oldest(q))
+    }
+
+    // Steps the ring of queue q over its oldest record.
+    fn remove_oldest(&mut self, q: u16) -> T
+        requires queue { ⌜ q < queues-of (now self) ⌝ }
+        requires waiting { ⌜ 0 < length (queue (now self) q) ⌝ }
+        ensures answer { λ r. ⌜ Ok r ≡ oldest (queue (now (self .entry)) q) ⌝ }
+        ensures queues { λ _. ⌜ queues-of (now (self .exit)) ≡ queues-of (now (self .entry)) ⌝ }
+        ensures places { λ _. ⌜ places-of (now (self .exit)) ≡ places-of (now (self .entry)) ⌝ }
+        ensures lender { λ _. ⌜ name (now (self .exit) .memory) ≡ name (now (self .entry) .memory) ⌝ }
+        ensures memory { λ _. ⌜ memory-of (now (self .exit)) ≡ memory-of (now (self .entry)) ⌝ }
+        ensures after { λ _. ⌜ ((j : ℕ) → queue (now (self .exit)) j ≡ cond (eqb j q) (drop 1 (queue (now (self .entry)) q)) (queue (now (self .entry)) j)) ⌝ }
+    {
+        let n = self.waiting(q);
         let at = self.place(q, 0);
         let item = self.memory[at];
-        let first = (self.rings[q as usize].first as usize + 1) % self.places as usize;
+        let next = (self.rings[q as usize].first as usize + 1) % self.places as usize;
         self.rings[q as usize] = Ring {
-            first: first as u16,
+            first: next as u16,
             waiting: n - 1,
         };
-        Ok(item)
+        item
     }
 }

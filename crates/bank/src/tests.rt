@@ -1,8 +1,8 @@
-use std::test::*;
 use crate::Bank;
 use crate::refusals::Refusal;
 use crate::refusals::RefusalDebug;
 use crate::refusals::RefusalPartialEq;
+use std::test::*;
 
 #[test]
 fn first_in_first_out_round_the_ring() -> Result<(), Fail> {

@@ -7,7 +7,7 @@ use lib.Dec.{ltb, leb, eqb}
 use Rattle.std.specs.declared.result.Result.{Result}
 use Rattle.std.specs.declared.result.Result.the-variants.{Ok, Err}
 use Rattle.std.proofs.shelf.Ways.{tells}
-use Rattle.exchange.specs.Lines.{Lines, joins}
+use Rattle.exchange.specs.Lines.{Lines, two-bays, joins}
 use Rattle.exchange.specs.Answers.{on-line}
 use Rattle.exchange.specs.declared.refusals.Refusal.{Refusal}
 use Rattle.exchange.specs.declared.refusals.Refusal.the-variants.{NoBay, SameBay}
@@ -17,7 +17,7 @@ pub record Tests (n i j : ℕ) : Type 0 where
   pub bays : (leb n i || leb n j) ≡ false
   pub apart : eqb i j ≡ false
 
-tests : (n i j : ℕ) → (ltb i n && (ltb j n && not (eqb i j))) ≡ true → Tests n i j
+tests : (n i j : ℕ) → two-bays n i j ≡ true → Tests n i j
 tests n i j e = record { bays = grind (arith, tells); apart = grind (arith, tells) }
 
 pub joins-answers : {K X : Type 0} (l : Lines K) (i j : ℕ) (r : Result X Refusal) → joins l i j ≡ true → on-line l i j r ≡ r
@@ -28,7 +28,7 @@ answered true t v q e = let z : _≡_ {A = ℕ} 0 1 = cc in let z : ⊥ = omega 
 answered false true v q e = let z : _≡_ {A = ℕ} 0 1 = cc in let z : ⊥ = omega arith in absurd z
 answered false false v q e = (refl, refl, cc)
 
-joined-by : (n i j : ℕ) → (leb n i || leb n j) ≡ false → eqb i j ≡ false → (ltb i n && (ltb j n && not (eqb i j))) ≡ true
+joined-by : (n i j : ℕ) → (leb n i || leb n j) ≡ false → eqb i j ≡ false → two-bays n i j ≡ true
 joined-by n i j a b = grind (arith, tells)
 
 -- a call that is answered was on a line

@@ -17,10 +17,14 @@ pub record Lines (K : Type 0) : Type 0 where
 abbrev pub same-pair : ℕ → ℕ → ℕ → ℕ → Bool
 same-pair a b i j = eqb a i && eqb b j
 
+-- i and j are two different bays of n
+abbrev pub two-bays : ℕ → ℕ → ℕ → Bool
+two-bays n i j = ltb i n && (ltb j n && not (eqb i j))
+
 module _ {K : Type 0} where
-  -- a line leads from i to j: they are two different bays
+  -- a line leads from i to j
   abbrev pub joins : Lines K → ℕ → ℕ → Bool
-  joins l i j = ltb i (l .bays) && (ltb j (l .bays) && not (eqb i j))
+  joins l i j = two-bays (l .bays) i j
 
   -- the lines l, with xs in place of the list from i to j
   abbrev pub with-line : Lines K → ℕ → ℕ → List K → Lines K

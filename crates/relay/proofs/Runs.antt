@@ -21,16 +21,17 @@ underway-none l ss os e = record { answers = ap (λ xs. xs ++ outcomes l ss) e; 
 pub underway-more : (l₀ l l′ : Lines Message) (ss : List Step) (k : ℕ) (os os′ : List Outcome) (d : Step) (o : Outcome) → Underway l₀ l ss k os → k < length ss → o ≡ outcome l (getD ss k d) → l′ ≡ after l (getD ss k d) → os′ ≡ os ++ o ∷ [] → Underway l₀ l′ ss (k + 1) os′
 underway-more l₀ l l′ ss k os os′ d o u h eo el es = record {
   answers =
-    ap (λ xs. xs ++ outcomes l′ (drop (k + 1) ss)) es
-    ∙ append-assoc os (o ∷ []) (outcomes l′ (drop (k + 1) ss))
-    ∙ ap (λ x. os ++ (x ∷ outcomes l′ (drop (k + 1) ss))) eo
-    ∙ ap (λ x. os ++ (outcome l (getD ss k d) ∷ outcomes x (drop (k + 1) ss))) el
-    ∙ ap (λ xs. os ++ xs) (sym (at-drop-more (outcomes l) ss k d h))
-    ∙ u .answers;
+      ap (λ xs. xs ++ outcomes l′ (drop (k + 1) ss)) es
+      ∙ append-assoc os (o ∷ []) (outcomes l′ (drop (k + 1) ss))
+      ∙ ap (λ x. os ++ (x ∷ outcomes l′ (drop (k + 1) ss))) eo
+      ∙ ap (λ x. os ++ (outcome l (getD ss k d) ∷ outcomes x (drop (k + 1) ss))) el
+      ∙ ap (λ xs. os ++ xs) (sym (at-drop-more (outcomes l) ss k d h))
+      ∙ u .answers;
   lines = ap (λ x. after-all x (drop (k + 1) ss)) el ∙ sym (at-drop-more (after-all l) ss k d h) ∙ u .lines;
 }
 
 pub underway-all : (l₀ l : Lines Message) (ss : List Step) (k : ℕ) (os : List Outcome) → Underway l₀ l ss k os → length ss ≤ k → (os ≡ outcomes l₀ ss) × (l ≡ after-all l₀ ss)
-underway-all l₀ l ss k os u h =
-    (sym (append-nil os) ∙ ap (λ xs. os ++ xs) (sym (at-drop-all (outcomes l) ss k h)) ∙ u .answers,
-     sym (at-drop-all (after-all l) ss k h) ∙ u .lines)
+underway-all l₀ l ss k os u h = (
+  sym (append-nil os) ∙ ap (λ xs. os ++ xs) (sym (at-drop-all (outcomes l) ss k h)) ∙ u .answers,
+  sym (at-drop-all (after-all l) ss k h) ∙ u .lines,
+)

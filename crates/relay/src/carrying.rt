@@ -6,12 +6,12 @@ ghost use Rattle.std.specs.Vec.{made};
 ghost use Rattle.exchange.specs.declared.refusals.Refusal.{Refusal};
 ghost use Rattle.relay.specs.declared.steps.Outcome.the-variants.{Refused};
 ghost use Rattle.relay.specs.Runs.{outcome, after, outcomes, after-all, In-order};
+use crate::steps::Outcome;
+use crate::steps::Step;
 use exchange::Exchange;
 use exchange::Message;
 use std::alloc::AllocError;
 use std::alloc::Global;
-use crate::steps::Outcome;
-use crate::steps::Step;
 
 // Makes one step.
 pub fn make_step<E: Exchange<Message = Message>>(exchange: &mut E, step: Step) -> Outcome
@@ -32,7 +32,11 @@ pub fn make_step<E: Exchange<Message = Message>>(exchange: &mut E, step: Step) -
 }
 
 // Makes the steps one after another and answers what each was answered. For want of memory it makes none of them.
-pub fn carry<E: Exchange<Message = Message>>(heap: Global, exchange: &mut E, steps: &[Step]) -> Result<Vec<Outcome>, AllocError>
+pub fn carry<E: Exchange<Message = Message>>(
+    heap: Global,
+    exchange: &mut E,
+    steps: &[Step],
+) -> Result<Vec<Outcome>, AllocError>
     ensures answers { λ r. ⌜ made r (λ v. vec-items v ≡ outcomes (E·Exchange .lines (now (exchange .entry))) (now (steps .entry))) ⌝ }
     ensures lines { λ r. ⌜ (isOk r ≡ true → E·Exchange .lines (now (exchange .exit)) ≡ after-all (E·Exchange .lines (now (exchange .entry))) (now (steps .entry))) ⌝ }
     ensures in_order { λ r. ⌜ made r (λ v. In-order (E·Exchange .lines (now (exchange .entry))) (now (steps .entry)) (vec-items v) (E·Exchange .lines (now (exchange .exit)))) ⌝ }

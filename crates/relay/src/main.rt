@@ -4,6 +4,8 @@ mod list;
 mod report;
 mod steps;
 
+use crate::carrying::carry;
+use crate::list::STEPS;
 use exchange::Exchange;
 use exchange::Message;
 use exchange::RefusalDebug;
@@ -12,10 +14,9 @@ use exchange::RefusalError;
 use ring_lines::RingLines;
 use ring_lines::RingLinesExchange;
 use std::error::AnyError;
-use crate::carrying::carry;
-use crate::list::STEPS;
 
 const BAYS: u16 = 3;
+
 const PLACES: u16 = 4;
 
 // A record for each place of each line.

@@ -9,8 +9,15 @@ use std::fmt;
 // One call on an exchange.
 #[derive(Clone, Copy)]
 pub enum Step {
-    Put { from: u16, to: u16, message: Message },
-    Take { from: u16, to: u16 },
+    Put {
+        from: u16,
+        to: u16,
+        message: Message,
+    },
+    Take {
+        from: u16,
+        to: u16,
+    },
 }
 
 // What a step was answered.

@@ -9,7 +9,7 @@ use native.Mathlib.Omega.{arith}
 use lib.Dec.{ltb, eqb}
 use Rattle.std.proofs.shelf.Bits.{mul-le, mul-add-lt, div-mul-add, mod-mul-add}
 use Rattle.std.proofs.shelf.Tests.{and-parts, ltb-true, eqb-false, not-true, lt-ltb, le-ltb, eq-eqb, ne-eqb, cases-eq, cases-lt, cases-bool, cond-true, cond-false, and-left, and-right}
-use Rattle.exchange.specs.Lines.{same-pair}
+use Rattle.exchange.specs.Lines.{same-pair, two-bays}
 use Rattle.ring_lines.specs.Meaning.{queue-of}
 
 pub square-fits : (n : ℕ) → n ≤ 12 → n * (n - 1) ≤ 132
@@ -21,7 +21,7 @@ pub record Pair (n a b : ℕ) : Type 0 where
   pub to : b < n
   pub apart : a ≢ b
 
-pub pair : (n a b : ℕ) → (ltb a n && (ltb b n && not (eqb a b))) ≡ true → Pair n a b
+pub pair : (n a b : ℕ) → two-bays n a b ≡ true → Pair n a b
 pair n a b e =
     let p = and-parts (ltb a n) (ltb b n && not (eqb a b)) e in
     let r = and-parts (ltb b n) (not (eqb a b)) (p .1) in
@@ -60,25 +60,22 @@ queue-same n a b i j p r e =
 
 -- one queue of a bank changes: so does one line, and no other
 module _ {M : Type 0} (n : ℕ) (before after : ℕ → List M) (i j : ℕ) (f : List M → List M) where
-  abbrev joined : ℕ → ℕ → mathlib.Core.Bool.Bool
-  joined a b = ltb a n && (ltb b n && not (eqb a b))
-
-  pub one-line : joined i j ≡ true → ((q : ℕ) → after q ≡ cond (eqb q (queue-of n i j)) (f (before (queue-of n i j))) (before q)) → (a b : ℕ) → cond (joined a b) (after (queue-of n a b)) [] ≡ cond (same-pair a b i j) (f (cond (joined i j) (before (queue-of n i j)) [])) (cond (joined a b) (before (queue-of n a b)) [])
+  pub one-line : two-bays n i j ≡ true → ((q : ℕ) → after q ≡ cond (eqb q (queue-of n i j)) (f (before (queue-of n i j))) (before q)) → (a b : ℕ) → cond (two-bays n a b) (after (queue-of n a b)) [] ≡ cond (same-pair a b i j) (f (cond (two-bays n i j) (before (queue-of n i j)) [])) (cond (two-bays n a b) (before (queue-of n a b)) [])
   one-line ok h a b =
       ⊎-elim
       (λ e.
       ⊎-elim
       (λ t.
-      let P : ℕ → ℕ → Type 0 = λ x y. cond (joined x y) (after (queue-of n x y)) [] ≡ cond (same-pair x y i j) (f (cond (joined i j) (before (queue-of n i j)) [])) (cond (joined x y) (before (queue-of n x y)) []) in
+      let P : ℕ → ℕ → Type 0 = λ x y. cond (two-bays n x y) (after (queue-of n x y)) [] ≡ cond (same-pair x y i j) (f (cond (two-bays n i j) (before (queue-of n i j)) [])) (cond (two-bays n x y) (before (queue-of n x y)) []) in
       subst (λ x. P x b) (sym e) (subst (λ y. P i y) (sym t) (rw (ok, eq-eqb i i refl, eq-eqb j j refl, h (queue-of n i j), eq-eqb (queue-of n i j) (queue-of n i j) refl))))
       (λ t. rw (and-right (eqb a i) (eqb b j) (ne-eqb b j t)) (other a b (λ x y. t y)))
       (cases-eq b j))
       (λ e. rw (and-left (eqb a i) (eqb b j) (ne-eqb a i e)) (other a b (λ x y. e x)))
       (cases-eq a i)
     where
-      other : (x y : ℕ) → (x ≡ i → y ≡ j → ⊥) → cond (joined x y) (after (queue-of n x y)) [] ≡ cond (joined x y) (before (queue-of n x y)) []
+      other : (x y : ℕ) → (x ≡ i → y ≡ j → ⊥) → cond (two-bays n x y) (after (queue-of n x y)) [] ≡ cond (two-bays n x y) (before (queue-of n x y)) []
       other x y ne =
           ⊎-elim
           (λ t. rw (t, h (queue-of n x y), ne-eqb (queue-of n x y) (queue-of n i j) (λ s. let z = queue-same n x y i j (pair n x y t) (pair n i j ok) s in ne (z .0) (z .1))))
           (λ t. rw t)
-          (cases-bool (joined x y))
+          (cases-bool (two-bays n x y))

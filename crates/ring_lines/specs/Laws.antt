@@ -1,10 +1,9 @@
 -- The laws that every exchange owes, proved of ring lines: no list is longer than its places, and nothing waits where no line leads.
 use mathlib.Core.Path.{_≡_}
 use mathlib.Core.List.{[]}
-use mathlib.Core.Bool.{false, _&&_, not}
+use mathlib.Core.Bool.{false}
 use Prim.Native.Nat.{ℕ, _≤_}
 use native.Mathlib.Omega.{arith}
-use lib.Dec.{ltb, eqb}
 use lib.ListN.{length}
 use Rattle.std.proofs.shelf.Tests.{cond-false, cond-both}
 use Rattle.bank.specs.Meaning.{queue, places-of}

@@ -1,12 +1,12 @@
 -- What ring lines stand for.
 use mathlib.Core.List.{[]}
-use mathlib.Core.Bool.{cond, _&&_, not}
+use mathlib.Core.Bool.{cond, _&&_}
 use Prim.Native.Nat.{ℕ, _+_, _-_, _*_}
-use lib.Dec.{ltb, leb, eqb}
+use lib.Dec.{ltb, leb}
 use Rattle.bank.specs.Meaning.{queue, queues-of, places-of}
 use Rattle.bank.specs.declared.refusals.Refusal as bank
 use Rattle.bank.specs.declared.refusals.Refusal.the-variants as queues
-use Rattle.exchange.specs.Lines.{Lines}
+use Rattle.exchange.specs.Lines.{Lines, two-bays}
 use Rattle.exchange.specs.declared.refusals.Refusal.{Refusal}
 use Rattle.exchange.specs.declared.refusals.Refusal.the-variants.{Bays, Places, Memory, NoBay, Full, Empty}
 use Rattle.ring_lines.specs.declared.lines.RingLines.{RingLines}
@@ -26,7 +26,7 @@ module _ {K : Type 0} where
         bays = bays-of x;
         places = places-of (x .bank);
         at = λ i j.
-            cond (ltb i (bays-of x) && (ltb j (bays-of x) && not (eqb i j))) (queue (x .bank) (queue-of (bays-of x) i j)) [];
+            cond (two-bays (bays-of x) i j) (queue (x .bank) (queue-of (bays-of x) i j)) [];
       }
 
 -- what a bank's refusal is called on a line

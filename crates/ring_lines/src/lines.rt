@@ -4,11 +4,12 @@ ghost use mathlib.Core.List.{[]};
 ghost use Prim.Native.Nat.{ℕ};
 ghost use lib.ListN.{length, set};
 ghost use Rattle.std.specs.Results.{isOk};
+ghost use Rattle.std.specs.Vec.{made};
 ghost use Rattle.std.specs.declared.result.Result.the-variants.{Ok};
 ghost use Rattle.bank.specs.Meaning.{memory-of, next-place};
 ghost use Rattle.bank.specs.Answers.{number as bank-number};
-ghost use Rattle.exchange.specs.Lines.{with-put, with-take};
-ghost use Rattle.exchange.specs.Answers.{number, check-answer, on-line, put-answer, take-answer};
+ghost use Rattle.exchange.specs.Lines.{joins, with-put, with-take};
+ghost use Rattle.exchange.specs.Answers.{number, check-answer, on-line, put-answer, take-answer, count-answer};
 ghost use Rattle.ring_lines.specs.Meaning.{bays-of, queue-of, ring-lines, line-refusal};
 ghost use Rattle.ring_lines.specs.Laws.{ring-short, ring-outside};
 use bank::Bank;
@@ -81,9 +82,10 @@ impl<'a, K: Copy> RingLines<'a, K> {
         }
     }
 
-    // The queue of the line from one bay to another.
-    fn queue(&self, from: u16, to: u16) -> Result<u16, Refusal>
-        ensures { λ r. ⌜ r ≡ on-line (ring-lines (now (self .entry))) from to (Ok (queue-of (bays-of (now (self .entry))) from to)) ⌝ }
+    // Refuses two numbers between which no line leads.
+    fn check_line(&self, from: u16, to: u16) -> Result<(), Refusal>
+        ensures answer { λ r. ⌜ r ≡ on-line (ring-lines (now (self .entry))) from to (Ok tt) ⌝ }
+        ensures leads { λ r. ⌜ made r (λ _. joins (ring-lines (now (self .entry))) from to ≡ true) ⌝ }
     {
         let n = self.size();
         if from >= n || to >= n {
@@ -92,8 +94,57 @@ impl<'a, K: Copy> RingLines<'a, K> {
         if from == to {
             return Err(Refusal::SameBay);
         }
+        Ok(())
+    }
+
+    // The queue of a line.
+    fn queue(&self, from: u16, to: u16) -> u16
+        requires { ⌜ joins (ring-lines (now self)) from to ≡ true ⌝ }
+        ensures { λ r. ⌜ r ≡ queue-of (bays-of (now (self .entry))) from to ⌝ }
+    {
         let column = if to < from { to } else { to - 1 };
-        Ok(from * (n - 1) + column)
+        from * (self.size() - 1) + column
+    }
+
+    // How many messages wait on a line.
+    fn count_on(&self, from: u16, to: u16) -> Result<u16, Refusal>
+        requires { ⌜ joins (ring-lines (now self)) from to ≡ true ⌝ }
+        ensures { λ r. ⌜ r ≡ count-answer (ring-lines (now (self .entry))) from to ⌝ }
+    {
+        match self.bank.count(self.queue(from, to)) {
+            Ok(n) => Ok(n),
+            Err(e) => Err(line_refusal(e)),
+        }
+    }
+
+    // Puts a message on a line.
+    fn put_on(&mut self, from: u16, to: u16, message: K) -> Result<(), Refusal>
+        requires { ⌜ joins (ring-lines (now self)) from to ≡ true ⌝ }
+        ensures answer { λ r. ⌜ r ≡ put-answer (ring-lines (now (self .entry))) from to ⌝ }
+        ensures refused { λ r. ⌜ (isOk r ≡ false → now (self .exit) ≡ now (self .entry)) ⌝ }
+        ensures after { λ r. ⌜ (isOk r ≡ true → ring-lines (now (self .exit)) ≡ with-put (ring-lines (now (self .entry))) from to message) ⌝ }
+        ensures memory { λ r. ⌜ (isOk r ≡ true → memory-of (now (self .exit) .bank) ≡ set (memory-of (now (self .entry) .bank)) (next-place (now (self .entry) .bank) (queue-of (bays-of (now (self .entry))) from to)) message) ⌝ }
+    {
+        let q = self.queue(from, to);
+        match self.bank.put(q, message) {
+            Ok(()) => Ok(()),
+            Err(e) => Err(line_refusal(e)),
+        }
+    }
+
+    // Takes the oldest message of a line.
+    fn take_from(&mut self, from: u16, to: u16) -> Result<K, Refusal>
+        requires { ⌜ joins (ring-lines (now self)) from to ≡ true ⌝ }
+        ensures answer { λ r. ⌜ r ≡ take-answer (ring-lines (now (self .entry))) from to ⌝ }
+        ensures refused { λ r. ⌜ (isOk r ≡ false → now (self .exit) ≡ now (self .entry)) ⌝ }
+        ensures after { λ r. ⌜ (isOk r ≡ true → ring-lines (now (self .exit)) ≡ with-take (ring-lines (now (self .entry))) from to) ⌝ }
+        ensures memory { λ _. ⌜ memory-of (now (self .exit) .bank) ≡ memory-of (now (self .entry) .bank) ⌝ }
+    {
+        let q = self.queue(from, to);
+        match self.bank.take(q) {
+            Ok(message) => Ok(message),
+            Err(e) => Err(line_refusal(e)),
+        }
     }
 }
 
@@ -115,11 +166,8 @@ pub impl<'a, K: Copy> Exchange for RingLines<'a, K> as RingLinesExchange {
     }
 
     fn count(&self, from: u16, to: u16) -> Result<u16, Refusal> {
-        let q = self.queue(from, to)?;
-        match self.bank.count(q) {
-            Ok(n) => Ok(n),
-            Err(e) => Err(line_refusal(e)),
-        }
+        self.check_line(from, to)?;
+        self.count_on(from, to)
     }
 
     // Writes one place of the memory, which held no waiting message.
@@ -129,11 +177,8 @@ pub impl<'a, K: Copy> Exchange for RingLines<'a, K> as RingLinesExchange {
         ensures after { λ r. ⌜ (isOk r ≡ true → ring-lines (now (self .exit)) ≡ with-put (ring-lines (now (self .entry))) from to message) ⌝ }
         ensures memory { λ r. ⌜ (isOk r ≡ true → memory-of (now (self .exit) .bank) ≡ set (memory-of (now (self .entry) .bank)) (next-place (now (self .entry) .bank) (queue-of (bays-of (now (self .entry))) from to)) message) ⌝ }
     {
-        let q = self.queue(from, to)?;
-        match self.bank.put(q, message) {
-            Ok(()) => Ok(()),
-            Err(e) => Err(line_refusal(e)),
-        }
+        self.check_line(from, to)?;
+        self.put_on(from, to, message)
     }
 
     // Writes no place of the memory.
@@ -143,10 +188,7 @@ pub impl<'a, K: Copy> Exchange for RingLines<'a, K> as RingLinesExchange {
         ensures after { λ r. ⌜ (isOk r ≡ true → ring-lines (now (self .exit)) ≡ with-take (ring-lines (now (self .entry))) from to) ⌝ }
         ensures memory { λ _. ⌜ memory-of (now (self .exit) .bank) ≡ memory-of (now (self .entry) .bank) ⌝ }
     {
-        let q = self.queue(from, to)?;
-        match self.bank.take(q) {
-            Ok(message) => Ok(message),
-            Err(e) => Err(line_refusal(e)),
-        }
+        self.check_line(from, to)?;
+        self.take_from(from, to)
     }
 }

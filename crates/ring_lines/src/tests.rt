@@ -1,3 +1,5 @@
+use crate::lines::RingLines;
+use crate::lines::RingLinesExchange;
 use exchange::Exchange;
 use exchange::Message;
 use exchange::MessageDebug;
@@ -6,15 +8,19 @@ use exchange::Refusal;
 use exchange::RefusalDebug;
 use exchange::RefusalPartialEq;
 use std::test::*;
-use crate::lines::RingLines;
-use crate::lines::RingLinesExchange;
 
 #[test]
 fn first_in_first_out_round_the_ring() -> Result<(), Fail> {
     let mut memory = [Message::Request; 18];
     let mut lines = RingLines::make(&mut memory, 3, 3);
-    let probe = Message::Probe { bay: 2, search: 65535 };
-    let notice = Message::Notice { waiter: 0, awaited: 255 };
+    let probe = Message::Probe {
+        bay: 2,
+        search: 65535,
+    };
+    let notice = Message::Notice {
+        waiter: 0,
+        awaited: 255,
+    };
     for message in [Message::Request, probe, Message::Answer] {
         check_eq(lines.put(2, 0, message), Ok(()))?;
     }
@@ -73,7 +79,10 @@ fn refused_numbers_make_no_bays() -> Result<(), Fail> {
 fn number_lines_from(lines: &mut RingLines<u16>, from: u16) -> Result<(), Fail> {
     for to in 0..12 {
         if to != from {
-            check_eq(lines.put(from, to, from.wrapping_mul(12).wrapping_add(to)), Ok(()))?;
+            check_eq(
+                lines.put(from, to, from.wrapping_mul(12).wrapping_add(to)),
+                Ok(()),
+            )?;
         }
     }
     Ok(())
@@ -83,7 +92,10 @@ fn number_lines_from(lines: &mut RingLines<u16>, from: u16) -> Result<(), Fail> 
 fn take_numbers_from(lines: &mut RingLines<u16>, from: u16) -> Result<(), Fail> {
     for to in 0..12 {
         if to != from {
-            check_eq(lines.take(from, to), Ok(from.wrapping_mul(12).wrapping_add(to)))?;
+            check_eq(
+                lines.take(from, to),
+                Ok(from.wrapping_mul(12).wrapping_add(to)),
+            )?;
         }
     }
     Ok(())

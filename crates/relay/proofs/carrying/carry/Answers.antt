@@ -12,10 +12,11 @@ loop-step-holds g c =
 
 pub loop-step-again : need.loop-step-again
 loop-step-again g c =
-    let e = c .push-reserved .ensures in
-    (omega (arith, e .len, c .loop-step .inv .0),
-     omega (arith, e .capacity, c .loop-step .inv .1),
-     underway-more _ _ _ (c .args .steps .now) (c .loop-step .step-index) _ _ _ (c .make-step .result) (c .loop-step .inv .2) (omega arith) (c .make-step .ensures .answer) (c .make-step .ensures .lines) (e .items))
+    let e = c .push-reserved .ensures in (
+      omega (arith, e .len, c .loop-step .inv .0),
+      omega (arith, e .capacity, c .loop-step .inv .1),
+      underway-more _ _ _ (c .args .steps .now) (c .loop-step .step-index) _ _ _ (c .make-step .result) (c .loop-step .inv .2) (omega arith) (c .make-step .ensures .answer) (c .make-step .ensures .lines) (e .items),
+    )
 
 pub returns : need.returns
 returns g c =
