@@ -112,3 +112,14 @@ module _ {T : Type 0} (memory : List T) (queues places : ℕ) (rings : List Ring
       ∙ sym (ap (drop 1) (list-split x hn is)))))
       (λ ne. rw (ne-eqb j q ne, ring-other rings q j (ring b (n - 1)) ne))
       (cases-eq j q)
+
+-- the place behind the newest record of queue q holds no waiting record of any queue
+module _ {T : Type 0} (memory : List T) (queues places : ℕ) (rings : List Ring) (q n : ℕ) (en : n ≡ length (list-in memory queues places rings q)) (hn : n < places) where
+  pub next-free : (j k : ℕ) → k < length (list-in memory queues places rings j) → place places j (ring-of rings j .first) k ≢ place places q (ring-of rings q .first) n
+  next-free j k hk =
+      ⊎-elim
+      (λ e.
+      let P : ℕ → Type 0 = λ i. k < length (list-in memory queues places rings i) → place places i (ring-of rings i .first) k ≢ place places q (ring-of rings q .first) n in
+      subst P (sym e) (λ l z. apart places (ring-of rings q .first) k n (omega arith) hn (omega (arith, z))) hk)
+      (λ ne. place-other places q j (ring-of rings j .first) (ring-of rings q .first) k n (omega arith) ne)
+      (cases-eq j q)

@@ -20,7 +20,7 @@ number NoQueue = 4
 number Full = 6
 number Empty = 7
 
--- a memory of `len` records for so many queues of so many places
+-- what `check` answers, of a memory of `len` records
 abbrev pub check-answer : ℕ → ℕ → ℕ → Result (Unit {0}) Refusal
 check-answer len queues places =
     cond (ltb queues 1 || ltb 132 queues) (Err Queues)
@@ -28,23 +28,26 @@ check-answer len queues places =
     (cond (ltb len (queues * places)) (Err Memory)
     (Ok tt)))
 
--- the oldest of a list
+-- the oldest of a list, or the refusal where it is empty
 abbrev pub oldest : {T : Type 0} → List T → Result T Refusal
 oldest [] = Err Empty
 oldest (x ∷ xs) = Ok x
 
 module _ {T : Type 0} where
+  -- what a put in queue q answers
   abbrev pub put-answer : Bank T → ℕ → Result (Unit {0}) Refusal
   put-answer b q =
       cond (leb (queues-of b) q) (Err NoQueue)
       (cond (leb (places-of b) (length (queue b q))) (Err Full)
       (Ok tt))
 
+  -- what a take from queue q answers
   abbrev pub take-answer : Bank T → ℕ → Result T Refusal
   take-answer b q =
       cond (leb (queues-of b) q) (Err NoQueue)
       (oldest (queue b q))
 
+  -- what a count of queue q answers
   abbrev pub count-answer : Bank T → ℕ → Result ℕ Refusal
   count-answer b q =
       cond (leb (queues-of b) q) (Err NoQueue)

@@ -5,6 +5,8 @@ mod refusals;
 mod rings;
 
 pub use queues::Bank;
+pub use queues::MOST_PLACES;
+pub use queues::MOST_QUEUES;
 pub use refusals::Refusal;
 pub use refusals::RefusalDebug;
 pub use refusals::RefusalPartialEq;

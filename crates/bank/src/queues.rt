@@ -7,11 +7,16 @@ ghost use lib.ListN.{length, drop, set};
 ghost use denote.Ref.{name};
 ghost use Rattle.std.specs.Results.{isOk};
 ghost use Rattle.bank.specs.Cells.{place};
-ghost use Rattle.bank.specs.Meaning.{fits, memory-of, ring-of, queues-of, places-of, queue, next-place};
+ghost use Rattle.bank.specs.Meaning.{fits, memory-of, ring-of, queues-of, places-of, queue, next-place, Free};
 ghost use Rattle.std.specs.declared.result.Result.the-variants.{Ok};
 ghost use Rattle.bank.specs.Answers.{check-answer, put-answer, oldest, take-answer, count-answer};
 use crate::refusals::Refusal;
 use crate::rings::Ring;
+
+// The largest number of queues, and of places in each.
+pub const MOST_QUEUES: u16 = 132;
+
+pub const MOST_PLACES: u16 = 1024;
 
 // Many queues in one borrowed memory. Queue q has the places q * places up to (q + 1) * places of the memory, and
 // its records lie in them as in a ring.
@@ -20,7 +25,7 @@ pub struct Bank<'a, T: Copy> {
     memory: &'a mut [T],
     queues: u16,
     places: u16,
-    rings: [Ring; 132],
+    rings: [Ring; MOST_QUEUES as usize],
 }
 
 impl<'a, T: Copy> Bank<'a, T> {
@@ -28,10 +33,10 @@ impl<'a, T: Copy> Bank<'a, T> {
     pub fn check(memory: &[T], queues: u16, places: u16) -> Result<(), Refusal>
         ensures { λ r. ⌜ r ≡ check-answer (length (now (memory .entry))) queues places ⌝ }
     {
-        if queues < 1 || queues > 132 {
+        if queues < 1 || queues > MOST_QUEUES {
             return Err(Refusal::Queues);
         }
-        if places < 1 || places > 1024 {
+        if places < 1 || places > MOST_PLACES {
             return Err(Refusal::Places);
         }
         if memory.len() < queues as usize * places as usize {
@@ -61,10 +66,7 @@ impl<'a, T: Copy> Bank<'a, T> {
         ensures memory { λ r. ⌜ memory-of r ≡ now (memory .entry) ⌝ }
         ensures empty { λ r. ⌜ ((q : ℕ) → queue r q ≡ []) ⌝ }
     {
-        let rings = [Ring {
-            first: 0,
-            waiting: 0,
-        }; 132];
+        let rings = [Ring::EMPTY; MOST_QUEUES as usize];
         Bank {
             memory,
             queues,
@@ -77,7 +79,8 @@ impl<'a, T: Copy> Bank<'a, T> {
     fn fits(&self) -> bool
         ensures { λ r. ⌜ r ≡ fits (now (self .entry)) ⌝ }
     {
-        self.queues <= 132 && self.queues as usize * self.places as usize <= self.memory.len()
+        self.queues <= MOST_QUEUES
+            && self.queues as usize * self.places as usize <= self.memory.len()
     }
 
     // How many queues there are.
@@ -131,6 +134,7 @@ impl<'a, T: Copy> Bank<'a, T> {
         ensures places { λ _. ⌜ places-of (now (self .exit)) ≡ places-of (now (self .entry)) ⌝ }
         ensures lender { λ _. ⌜ name (now (self .exit) .memory) ≡ name (now (self .entry) .memory) ⌝ }
         ensures memory { λ r. ⌜ (isOk r ≡ true → memory-of (now (self .exit)) ≡ set (memory-of (now (self .entry))) (next-place (now (self .entry)) q) item) ⌝ }
+        ensures free { λ r. ⌜ (isOk r ≡ true → Free (now (self .entry)) (next-place (now (self .entry)) q)) ⌝ }
         ensures after { λ r. ⌜ (isOk r ≡ true → (j : ℕ) → queue (now (self .exit)) j ≡ cond (eqb j q) (queue (now (self .entry)) q ++ item ∷ []) (queue (now (self .entry)) j)) ⌝ }
     {
         if q >= self.queues() {
@@ -151,6 +155,7 @@ impl<'a, T: Copy> Bank<'a, T> {
         ensures places { λ _. ⌜ places-of (now (self .exit)) ≡ places-of (now (self .entry)) ⌝ }
         ensures lender { λ _. ⌜ name (now (self .exit) .memory) ≡ name (now (self .entry) .memory) ⌝ }
         ensures memory { λ _. ⌜ memory-of (now (self .exit)) ≡ set (memory-of (now (self .entry))) (next-place (now (self .entry)) q) item ⌝ }
+        ensures free { λ _. ⌜ Free (now (self .entry)) (next-place (now (self .entry)) q) ⌝ }
         ensures after { λ _. ⌜ ((j : ℕ) → queue (now (self .exit)) j ≡ cond (eqb j q) (queue (now (self .entry)) q ++ item ∷ []) (queue (now (self .entry)) j)) ⌝ }
     {
         let n = self.waiting(q);

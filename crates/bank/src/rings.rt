@@ -4,3 +4,11 @@ pub struct Ring {
     pub first: u16,
     pub waiting: u16,
 }
+
+impl Ring {
+    // Nothing waits.
+    pub const EMPTY: Ring = Ring {
+        first: 0,
+        waiting: 0,
+    };
+}

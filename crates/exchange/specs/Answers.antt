@@ -20,7 +20,7 @@ number SameBay = 5
 number Full = 6
 number Empty = 7
 
--- lines for so many bays, of so many places each, in a memory of `len` records
+-- what the check before a making of lines answers, of a memory of `len` records
 abbrev pub check-answer : ℕ → ℕ → ℕ → Result (Unit {0}) Refusal
 check-answer len bays places =
     cond (ltb bays 2 || ltb 12 bays) (Err Bays)
@@ -28,7 +28,7 @@ check-answer len bays places =
     (cond (ltb len (bays * (bays - 1) * places)) (Err Memory)
     (Ok tt)))
 
--- the oldest of a list
+-- the oldest of a list, or the refusal where it is empty
 abbrev pub oldest : {X : Type 0} → List X → Result X Refusal
 oldest [] = Err Empty
 oldest (x ∷ xs) = Ok x
@@ -41,11 +41,14 @@ module _ {K : Type 0} where
       (cond (eqb i j) (Err SameBay)
       r)
 
+  -- what a put on the line from i to j answers
   abbrev pub put-answer : Lines K → ℕ → ℕ → Result (Unit {0}) Refusal
   put-answer l i j = on-line l i j (cond (leb (l .places) (length (l .at i j))) (Err Full) (Ok tt))
 
+  -- what a take from it answers
   abbrev pub take-answer : Lines K → ℕ → ℕ → Result K Refusal
   take-answer l i j = on-line l i j (oldest (l .at i j))
 
+  -- what a count of it answers
   abbrev pub count-answer : Lines K → ℕ → ℕ → Result ℕ Refusal
   count-answer l i j = on-line l i j (Ok (length (l .at i j)))

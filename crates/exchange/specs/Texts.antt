@@ -9,6 +9,7 @@ use Rattle.exchange.specs.declared.messages.Message.the-variants.{Request, Ans
 use Rattle.exchange.specs.declared.refusals.Refusal.{Refusal}
 use Rattle.exchange.specs.declared.refusals.Refusal.the-variants.{Bays, Places, Memory, NoBay, SameBay, Full, Empty}
 
+-- a message
 abbrev pub message-text : Message → List ℕ
 message-text Request = codes "request"
 message-text Answer = codes "answer"
@@ -17,14 +18,14 @@ message-text (Notice u v) = codes "notice of wait " ++ (decimal u ++ (codes "->"
 
 -- why a refusal is given
 abbrev pub reason : Refusal → List ℕ
-reason Bays = codes "not 2 to 12 bays"
-reason Places = codes "not 1 to 1024 places in a line"
+reason Bays = codes "number of bays out of range"
+reason Places = codes "number of places out of range"
 reason Memory = codes "too little memory for the lines"
 reason NoBay = codes "no such bay"
 reason SameBay = codes "no line leads from a bay to itself"
 reason Full = codes "the line is full"
 reason Empty = codes "the line is empty"
 
--- its number, and why
+-- a refusal: its number, and why
 abbrev pub refusal-text : Refusal → List ℕ
 refusal-text e = decimal (number e) ++ (codes ", " ++ reason e)

@@ -11,7 +11,7 @@ pub enum Message {
     Answer,
     // the search of that number, begun by that bay, has come along a wait
     Probe { bay: u8, search: u16 },
-    // the wait of one bay for another stands on a ring, or leads to one
+    // the wait of the one bay for the other stands on a ring, or leads to one
     Notice { waiter: u8, awaited: u8 },
 }
 

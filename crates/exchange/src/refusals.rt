@@ -38,8 +38,8 @@ impl Refusal {
         ensures { λ r. ⌜ now r ≡ reason self ⌝ }
     {
         match self {
-            Refusal::Bays => "not 2 to 12 bays",
-            Refusal::Places => "not 1 to 1024 places in a line",
+            Refusal::Bays => "number of bays out of range",
+            Refusal::Places => "number of places out of range",
             Refusal::Memory => "too little memory for the lines",
             Refusal::NoBay => "no such bay",
             Refusal::SameBay => "no line leads from a bay to itself",

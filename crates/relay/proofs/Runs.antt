@@ -1,37 +1,45 @@
--- A loop that makes steps one after another: what is done, with what the steps that are left will do, is the whole run.
+-- A loop that makes the steps of a log in place: what is done, with what the entries that are left will become, is the whole run.
 use mathlib.Core.Path.{_≡_, refl, sym, ap, _∙_}
 use mathlib.Core.List.{List, [], _∷_, _++_, append-assoc}
 use Prim.Native.Nat.{ℕ, _+_, _<_, _≤_}
-use lib.ListN.{length, drop, getD}
-use Rattle.std.proofs.shelf.Lists.{append-nil, at-drop-more, at-drop-all}
+use native.Mathlib.Omega.{arith}
+use lib.ListN.{length, take, drop, getD, set}
+use Rattle.std.proofs.shelf.Lists.{append-nil, at-drop-more, at-drop-all, take-all, take-more-set, drop-set-lt}
 use Rattle.exchange.specs.Lines.{Lines}
 use Rattle.exchange.specs.declared.messages.Message.{Message}
-use Rattle.relay.specs.Runs.{outcome, after, outcomes, after-all}
-use Rattle.relay.specs.declared.steps.Step.{Step}
-use Rattle.relay.specs.declared.steps.Outcome.{Outcome}
+use Rattle.relay.specs.Runs.{outcome-of, lines-after, log-of, lines-after-all}
+use Rattle.relay.specs.declared.outcomes.Outcome.{Outcome}
+use Rattle.relay.specs.declared.entries.Entry.{Entry}
 
--- l₀ are the lines before the first of the steps ss, l those after k of them, which were answered os
-pub record Underway (l₀ l : Lines Message) (ss : List Step) (k : ℕ) (os : List Outcome) : Type 0 where
-  pub answers : os ++ outcomes l (drop k ss) ≡ outcomes l₀ ss
-  pub lines : after-all l (drop k ss) ≡ after-all l₀ ss
+-- l₀ and es₀ are the lines and the log before the first step, l and es those after k steps
+pub record Underway (l₀ l : Lines Message) (es₀ es : List Entry) (k : ℕ) : Type 0 where
+  pub log : take k es ++ log-of l (drop k es) ≡ log-of l₀ es₀
+  pub lines : lines-after-all l (drop k es) ≡ lines-after-all l₀ es₀
 
-pub underway-none : (l : Lines Message) (ss : List Step) (os : List Outcome) → os ≡ [] → Underway l l ss 0 os
-underway-none l ss os e = record { answers = ap (λ xs. xs ++ outcomes l ss) e; lines = refl }
+pub underway-none : (l : Lines Message) (es : List Entry) → Underway l l es es 0
+underway-none l es = record { log = refl; lines = refl }
 
-pub underway-more : (l₀ l l′ : Lines Message) (ss : List Step) (k : ℕ) (os os′ : List Outcome) (d : Step) (o : Outcome) → Underway l₀ l ss k os → k < length ss → o ≡ outcome l (getD ss k d) → l′ ≡ after l (getD ss k d) → os′ ≡ os ++ o ∷ [] → Underway l₀ l′ ss (k + 1) os′
-underway-more l₀ l l′ ss k os os′ d o u h eo el es = record {
-  answers =
-      ap (λ xs. xs ++ outcomes l′ (drop (k + 1) ss)) es
-      ∙ append-assoc os (o ∷ []) (outcomes l′ (drop (k + 1) ss))
-      ∙ ap (λ x. os ++ (x ∷ outcomes l′ (drop (k + 1) ss))) eo
-      ∙ ap (λ x. os ++ (outcome l (getD ss k d) ∷ outcomes x (drop (k + 1) ss))) el
-      ∙ ap (λ xs. os ++ xs) (sym (at-drop-more (outcomes l) ss k d h))
-      ∙ u .answers;
-  lines = ap (λ x. after-all x (drop (k + 1) ss)) el ∙ sym (at-drop-more (after-all l) ss k d h) ∙ u .lines;
-}
+-- one step more: the entry at k, with its outcome, and the lines after it
+pub underway-more : (l₀ l l′ : Lines Message) (es₀ es : List Entry) (k : ℕ) (d : Entry) (o : Outcome) → Underway l₀ l es₀ es k → k < length es → o ≡ outcome-of l (getD es k d .step) → l′ ≡ lines-after l (getD es k d .step) → Underway l₀ l′ es₀ (set es k (record { step = getD es k d .step; outcome = o })) (k + 1)
+underway-more l₀ l l′ es₀ es k d o u h eo el =
+    let s = getD es k d .step in
+    let x : Entry = record { step = s; outcome = o } in
+    let left = drop (k + 1) es in
+    let same : drop (k + 1) (set es k x) ≡ left = drop-set-lt (k + 1) es k x (omega arith) in
+    record {
+      log =
+          ap (λ xs. xs ++ log-of l′ (drop (k + 1) (set es k x))) (take-more-set es k x h)
+          ∙ ap (λ xs. (take k es ++ x ∷ []) ++ log-of l′ xs) same
+          ∙ append-assoc (take k es) (x ∷ []) (log-of l′ left)
+          ∙ ap (λ y. take k es ++ ((record { step = s; outcome = y }) ∷ log-of l′ left)) eo
+          ∙ ap (λ y. take k es ++ ((record { step = s; outcome = outcome-of l s }) ∷ log-of y left)) el
+          ∙ ap (λ xs. take k es ++ xs) (sym (at-drop-more (log-of l) es k d h))
+          ∙ u .log;
+      lines = ap (lines-after-all l′) same ∙ ap (λ y. lines-after-all y left) el ∙ sym (at-drop-more (lines-after-all l) es k d h) ∙ u .lines;
+    }
 
-pub underway-all : (l₀ l : Lines Message) (ss : List Step) (k : ℕ) (os : List Outcome) → Underway l₀ l ss k os → length ss ≤ k → (os ≡ outcomes l₀ ss) × (l ≡ after-all l₀ ss)
-underway-all l₀ l ss k os u h = (
-  sym (append-nil os) ∙ ap (λ xs. os ++ xs) (sym (at-drop-all (outcomes l) ss k h)) ∙ u .answers,
-  sym (at-drop-all (after-all l) ss k h) ∙ u .lines,
+pub underway-all : (l₀ l : Lines Message) (es₀ es : List Entry) (k : ℕ) → Underway l₀ l es₀ es k → length es ≤ k → (es ≡ log-of l₀ es₀) × (l ≡ lines-after-all l₀ es₀)
+underway-all l₀ l es₀ es k u h = (
+  sym (take-all k es h) ∙ sym (append-nil (take k es)) ∙ ap (λ xs. take k es ++ xs) (sym (at-drop-all (log-of l) es k h)) ∙ u .log,
+  sym (at-drop-all (lines-after-all l) es k h) ∙ u .lines,
 )

@@ -1,10 +1,13 @@
 // Carries a fixed list of messages over the lines of a small depot, and prints what became of each.
 mod carrying;
+mod entries;
 mod list;
-mod report;
+mod outcomes;
 mod steps;
 
 use crate::carrying::carry;
+use crate::entries::Entry;
+use crate::entries::EntryDisplay;
 use crate::list::STEPS;
 use exchange::Exchange;
 use exchange::Message;
@@ -33,10 +36,11 @@ fn run(rt: &LibcRuntime) -> Result<(), AnyError> {
     let bays = lines.bays();
     let places = lines.places();
     println!(rt, "ring lines for {bays} bays, {places} places in a line")?;
-    let outcomes = carry(rt.alloc(), &mut lines, &STEPS)?;
-    for (i, (step, outcome)) in STEPS.iter().zip(outcomes.iter()).enumerate() {
-        let line = report::line(rt.alloc(), i.saturating_add(1), *step, *outcome)?;
-        println!(rt, "{line}")?;
+    let mut log = Entry::log(rt.alloc(), &STEPS)?;
+    carry(&mut lines, &mut log);
+    for (i, entry) in log.iter().enumerate() {
+        let number = i.saturating_add(1);
+        println!(rt, "{number} {entry}")?;
     }
     Ok(())
 }

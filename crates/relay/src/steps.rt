@@ -1,33 +1,16 @@
 ghost use Rattle.std.specs.declared.option.Option.the-variants.{Some};
-ghost use Rattle.relay.specs.Texts.{step-text, outcome-text};
+ghost use Rattle.relay.specs.Texts.{step-text};
 use exchange::Message;
 use exchange::MessageDisplay;
-use exchange::Refusal;
-use exchange::RefusalDisplay;
 use std::fmt;
 
 // One call on an exchange.
 #[derive(Clone, Copy)]
 pub enum Step {
-    Put {
-        from: u16,
-        to: u16,
-        message: Message,
-    },
-    Take {
-        from: u16,
-        to: u16,
-    },
-}
-
-// What a step was answered.
-#[derive(Clone, Copy)]
-pub enum Outcome {
-    // the message waits on its line
-    Accepted,
-    // the oldest message of the line
-    Taken(Message),
-    Refused(Refusal),
+    // from a bay, to a bay, the message
+    Put(u16, u16, Message),
+    // from a bay, to a bay
+    Take(u16, u16),
 }
 
 pub impl fmt::Display for Step as StepDisplay {
@@ -35,20 +18,8 @@ pub impl fmt::Display for Step as StepDisplay {
 
     fn fmt<W: fmt::Write>(&self, f: &mut fmt::Formatter<W>) -> fmt::Result {
         match *self {
-            Step::Put { from, to, message } => write!(f, "put {from}->{to} {message}"),
-            Step::Take { from, to } => write!(f, "take {from}->{to}"),
-        }
-    }
-}
-
-pub impl fmt::Display for Outcome as OutcomeDisplay {
-    ghost shown = { λ o. Some (outcome-text o) };
-
-    fn fmt<W: fmt::Write>(&self, f: &mut fmt::Formatter<W>) -> fmt::Result {
-        match *self {
-            Outcome::Accepted => write!(f, "ok"),
-            Outcome::Taken(message) => write!(f, "{message}"),
-            Outcome::Refused(refusal) => write!(f, "refused {refusal}"),
+            Step::Put(from, to, message) => write!(f, "put {from}->{to} {message}"),
+            Step::Take(from, to) => write!(f, "take {from}->{to}"),
         }
     }
 }

@@ -9,7 +9,7 @@ use lib.Dec.{leb, eqb}
 use lib.ListN.{length}
 use Rattle.std.specs.declared.result.Result.{Result}
 use Rattle.std.specs.declared.result.Result.the-variants.{Ok, Err}
-use Rattle.std.specs.Results.{mapped}
+use Rattle.std.specs.Results.{isOk}
 use Rattle.std.proofs.shelf.Tests.{and-parts, leb-true, lt-leb, cases-bool, cond-false, cond-true}
 use Rattle.bank.specs.Answers as bank
 use Rattle.bank.specs.Meaning.{queue, queues-of, places-of}
@@ -21,7 +21,7 @@ use Rattle.exchange.specs.Answers.{put-answer, take-answer, count-answer, oldes
 use Rattle.exchange.specs.declared.refusals.Refusal.{Refusal}
 use Rattle.exchange.specs.declared.refusals.Refusal.the-variants.{Full, Empty}
 use Rattle.exchange.proofs.OnLine.{joins-answers}
-use Rattle.ring_lines.specs.Meaning.{queue-of, bays-of, ring-lines, line-refusal}
+use Rattle.ring_lines.specs.Meaning.{queue-of, bays-of, ring-lines, line-answer}
 use Rattle.ring_lines.specs.declared.lines.RingLines.{RingLines}
 use Rattle.ring_lines.proofs.Pairs.{pair, queue-below, one-line}
 
@@ -61,33 +61,34 @@ changed x b i j q f at e h u v =
     (λ k. let P : ℕ → Type 0 = λ w. queue b k ≡ cond (eqb k w) (f (queue (x .bank) w)) (queue (x .bank) k) in subst P (sym (at .place)) (h k)) u v
 
 -- ---- the answers: those of the bank, with its refusals under their names on a line
-abbrev pub translated : {X : Type 0} → Result X bank-refusal.Refusal → Result X Refusal
-translated r = mapped (λ x. x) line-refusal r
+pub answer-test : {X : Type 0} (r : Result X bank-refusal.Refusal) → isOk (line-answer r) ≡ isOk r
+answer-test (Ok x) = refl
+answer-test (Err e) = refl
 
-oldest-translated : {K : Type 0} (l : List K) → oldest l ≡ translated (bank.oldest l)
-oldest-translated [] = refl
-oldest-translated (x ∷ xs) = refl
+oldest-named : {K : Type 0} (l : List K) → oldest l ≡ line-answer (bank.oldest l)
+oldest-named [] = refl
+oldest-named (x ∷ xs) = refl
 
 module _ {K : Type 0} (x : RingLines K) (i j q : ℕ) (at : Found x i j q) where
   inside : leb (queues-of (x .bank)) q ≡ false
   inside = lt-leb (queues-of (x .bank)) q (at .inside)
 
-  pub put-is : put-answer (ring-lines x) i j ≡ translated (bank.put-answer (x .bank) q)
+  pub put-is : put-answer (ring-lines x) i j ≡ line-answer (bank.put-answer (x .bank) q)
   put-is =
       joins-answers (ring-lines x) i j (cond (leb (places-of (x .bank)) (length (ring-lines x .at i j))) (Err Full) (Ok tt)) (at .leads)
       ∙ ap (λ l. cond (leb (places-of (x .bank)) (length l)) (Err Full) (Ok tt)) (at .here)
       ∙ rw inside
       (elim (leb (places-of (x .bank)) (length (queue (x .bank) q))) as
-      (λ t. cond t (Err Full) (Ok (tt {0})) ≡ translated (cond t (Err queues.Full) (Ok (tt {0}))))
+      (λ t. cond t (Err Full) (Ok (tt {0})) ≡ line-answer (cond t (Err queues.Full) (Ok (tt {0}))))
       [ true ↦ refl | false ↦ refl ])
 
-  pub take-is : take-answer (ring-lines x) i j ≡ translated (bank.take-answer (x .bank) q)
+  pub take-is : take-answer (ring-lines x) i j ≡ line-answer (bank.take-answer (x .bank) q)
   take-is =
       joins-answers (ring-lines x) i j (oldest (ring-lines x .at i j)) (at .leads)
       ∙ ap oldest (at .here)
-      ∙ rw inside (oldest-translated (queue (x .bank) q))
+      ∙ rw inside (oldest-named (queue (x .bank) q))
 
-  pub count-is : count-answer (ring-lines x) i j ≡ translated (bank.count-answer (x .bank) q)
+  pub count-is : count-answer (ring-lines x) i j ≡ line-answer (bank.count-answer (x .bank) q)
   count-is =
       joins-answers (ring-lines x) i j (Ok (length (ring-lines x .at i j))) (at .leads)
       ∙ ap (λ l. Ok (length l)) (at .here)

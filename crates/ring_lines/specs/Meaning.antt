@@ -3,6 +3,8 @@ use mathlib.Core.List.{[]}
 use mathlib.Core.Bool.{cond, _&&_}
 use Prim.Native.Nat.{ℕ, _+_, _-_, _*_}
 use lib.Dec.{ltb, leb}
+use Rattle.std.specs.Results.{mapped}
+use Rattle.std.specs.declared.result.Result.{Result}
 use Rattle.bank.specs.Meaning.{queue, queues-of, places-of}
 use Rattle.bank.specs.declared.refusals.Refusal as bank
 use Rattle.bank.specs.declared.refusals.Refusal.the-variants as queues
@@ -16,10 +18,11 @@ abbrev pub queue-of : ℕ → ℕ → ℕ → ℕ
 queue-of n i j = i * (n - 1) + cond (ltb j i) j (j - 1)
 
 module _ {K : Type 0} where
-  -- how many bays there are. Each pair has its queue in all that `make` gives; a value without them would stand for no bays
+  -- how many bays there are. What `make` gives has a queue for each pair; a value that had not would stand for no bays
   abbrev pub bays-of : RingLines K → ℕ
   bays-of x = cond (leb (x .bays) 12 && leb (x .bays * (x .bays - 1)) (queues-of (x .bank))) (x .bays) 0
 
+  -- the lines: each pair's list is that of its queue
   abbrev pub ring-lines : RingLines K → Lines K
   ring-lines x =
       record {
@@ -37,3 +40,7 @@ line-refusal queues.Memory = Memory
 line-refusal queues.NoQueue = NoBay
 line-refusal queues.Full = Full
 line-refusal queues.Empty = Empty
+
+-- the bank's answer, with its refusal under the name that it has on a line
+abbrev pub line-answer : {X : Type 0} → Result X bank.Refusal → Result X Refusal
+line-answer r = mapped (λ x. x) line-refusal r

@@ -3,6 +3,7 @@ ghost use mathlib.Core.Bool.{true, false, cond};
 ghost use mathlib.Core.List.{[]};
 ghost use Prim.Native.Nat.{ℕ};
 ghost use lib.ListN.{length, set};
+ghost use denote.Ref.{name};
 ghost use Rattle.std.specs.Results.{isOk};
 ghost use Rattle.std.specs.Vec.{made};
 ghost use Rattle.std.specs.declared.result.Result.the-variants.{Ok};
@@ -10,11 +11,17 @@ ghost use Rattle.bank.specs.Meaning.{memory-of, next-place};
 ghost use Rattle.bank.specs.Answers.{number as bank-number};
 ghost use Rattle.exchange.specs.Lines.{joins, with-put, with-take};
 ghost use Rattle.exchange.specs.Answers.{number, check-answer, on-line, put-answer, take-answer, count-answer};
-ghost use Rattle.ring_lines.specs.Meaning.{bays-of, queue-of, ring-lines, line-refusal};
+ghost use Rattle.ring_lines.specs.Meaning.{bays-of, queue-of, ring-lines, line-refusal, line-answer};
 ghost use Rattle.ring_lines.specs.Laws.{ring-short, ring-outside};
 use bank::Bank;
+use bank::MOST_PLACES;
 use exchange::Exchange;
 use exchange::Refusal;
+
+// The smallest and the largest number of bays.
+pub const FEWEST_BAYS: u16 = 2;
+
+pub const MOST_BAYS: u16 = 12;
 
 // What a bank's refusal is called on a line. Its number stays.
 fn line_refusal(refusal: bank::Refusal) -> Refusal
@@ -30,6 +37,16 @@ fn line_refusal(refusal: bank::Refusal) -> Refusal
     }
 }
 
+// The bank's answer, with its refusal under the name that it has on a line.
+fn line_answer<X>(answer: Result<X, bank::Refusal>) -> Result<X, Refusal>
+    ensures { λ r. ⌜ r ≡ line-answer answer ⌝ }
+{
+    match answer {
+        Ok(x) => Ok(x),
+        Err(e) => Err(line_refusal(e)),
+    }
+}
+
 // Lines for every ordered pair of different bays, each a queue of one bank.
 #[derive(Drop)]
 pub struct RingLines<'a, K: Copy> {
@@ -42,10 +59,10 @@ impl<'a, K: Copy> RingLines<'a, K> {
     pub fn check(memory: &[K], bays: u16, places: u16) -> Result<(), Refusal>
         ensures { λ r. ⌜ r ≡ check-answer (length (now (memory .entry))) bays places ⌝ }
     {
-        if bays < 2 || bays > 12 {
+        if bays < FEWEST_BAYS || bays > MOST_BAYS {
             return Err(Refusal::Bays);
         }
-        if places < 1 || places > 1024 {
+        if places < 1 || places > MOST_PLACES {
             return Err(Refusal::Places);
         }
         let lines = bays as usize * (bays as usize - 1);
@@ -59,6 +76,7 @@ impl<'a, K: Copy> RingLines<'a, K> {
     pub fn make(memory: &'a mut [K], bays: u16, places: u16) -> Self
         ensures bays { λ r. ⌜ ring-lines r .bays ≡ cond (isOk (check-answer (length (now (memory .entry))) bays places)) bays 0 ⌝ }
         ensures places { λ r. ⌜ ring-lines r .places ≡ cond (isOk (check-answer (length (now (memory .entry))) bays places)) places 0 ⌝ }
+        ensures lender { λ r. ⌜ name (r .bank .memory) ≡ name (memory .entry) ⌝ }
         ensures memory { λ r. ⌜ memory-of (r .bank) ≡ now (memory .entry) ⌝ }
         ensures empty { λ r. ⌜ ((i j : ℕ) → ring-lines r .at i j ≡ []) ⌝ }
     {
@@ -75,7 +93,7 @@ impl<'a, K: Copy> RingLines<'a, K> {
         ensures { λ r. ⌜ r ≡ bays-of (now (self .entry)) ⌝ }
     {
         let n = self.bays;
-        if n <= 12 && n * n.saturating_sub(1) <= self.bank.queues() {
+        if n <= MOST_BAYS && n * n.saturating_sub(1) <= self.bank.queues() {
             n
         } else {
             0
@@ -111,10 +129,8 @@ impl<'a, K: Copy> RingLines<'a, K> {
         requires { ⌜ joins (ring-lines (now self)) from to ≡ true ⌝ }
         ensures { λ r. ⌜ r ≡ count-answer (ring-lines (now (self .entry))) from to ⌝ }
     {
-        match self.bank.count(self.queue(from, to)) {
-            Ok(n) => Ok(n),
-            Err(e) => Err(line_refusal(e)),
-        }
+        let q = self.queue(from, to);
+        line_answer(self.bank.count(q))
     }
 
     // Puts a message on a line.
@@ -123,13 +139,11 @@ impl<'a, K: Copy> RingLines<'a, K> {
         ensures answer { λ r. ⌜ r ≡ put-answer (ring-lines (now (self .entry))) from to ⌝ }
         ensures refused { λ r. ⌜ (isOk r ≡ false → now (self .exit) ≡ now (self .entry)) ⌝ }
         ensures after { λ r. ⌜ (isOk r ≡ true → ring-lines (now (self .exit)) ≡ with-put (ring-lines (now (self .entry))) from to message) ⌝ }
+        ensures lender { λ _. ⌜ name (now (self .exit) .bank .memory) ≡ name (now (self .entry) .bank .memory) ⌝ }
         ensures memory { λ r. ⌜ (isOk r ≡ true → memory-of (now (self .exit) .bank) ≡ set (memory-of (now (self .entry) .bank)) (next-place (now (self .entry) .bank) (queue-of (bays-of (now (self .entry))) from to)) message) ⌝ }
     {
         let q = self.queue(from, to);
-        match self.bank.put(q, message) {
-            Ok(()) => Ok(()),
-            Err(e) => Err(line_refusal(e)),
-        }
+        line_answer(self.bank.put(q, message))
     }
 
     // Takes the oldest message of a line.
@@ -138,13 +152,11 @@ impl<'a, K: Copy> RingLines<'a, K> {
         ensures answer { λ r. ⌜ r ≡ take-answer (ring-lines (now (self .entry))) from to ⌝ }
         ensures refused { λ r. ⌜ (isOk r ≡ false → now (self .exit) ≡ now (self .entry)) ⌝ }
         ensures after { λ r. ⌜ (isOk r ≡ true → ring-lines (now (self .exit)) ≡ with-take (ring-lines (now (self .entry))) from to) ⌝ }
+        ensures lender { λ _. ⌜ name (now (self .exit) .bank .memory) ≡ name (now (self .entry) .bank .memory) ⌝ }
         ensures memory { λ _. ⌜ memory-of (now (self .exit) .bank) ≡ memory-of (now (self .entry) .bank) ⌝ }
     {
         let q = self.queue(from, to);
-        match self.bank.take(q) {
-            Ok(message) => Ok(message),
-            Err(e) => Err(line_refusal(e)),
-        }
+        line_answer(self.bank.take(q))
     }
 }
 
@@ -170,11 +182,12 @@ pub impl<'a, K: Copy> Exchange for RingLines<'a, K> as RingLinesExchange {
         self.count_on(from, to)
     }
 
-    // Writes one place of the memory, which held no waiting message.
+    // Writes one place of the memory, the next one of the line's queue.
     fn put(&mut self, from: u16, to: u16, message: K) -> Result<(), Refusal>
         ensures answer { λ r. ⌜ r ≡ put-answer (ring-lines (now (self .entry))) from to ⌝ }
         ensures refused { λ r. ⌜ (isOk r ≡ false → now (self .exit) ≡ now (self .entry)) ⌝ }
         ensures after { λ r. ⌜ (isOk r ≡ true → ring-lines (now (self .exit)) ≡ with-put (ring-lines (now (self .entry))) from to message) ⌝ }
+        ensures lender { λ _. ⌜ name (now (self .exit) .bank .memory) ≡ name (now (self .entry) .bank .memory) ⌝ }
         ensures memory { λ r. ⌜ (isOk r ≡ true → memory-of (now (self .exit) .bank) ≡ set (memory-of (now (self .entry) .bank)) (next-place (now (self .entry) .bank) (queue-of (bays-of (now (self .entry))) from to)) message) ⌝ }
     {
         self.check_line(from, to)?;
@@ -186,6 +199,7 @@ pub impl<'a, K: Copy> Exchange for RingLines<'a, K> as RingLinesExchange {
         ensures answer { λ r. ⌜ r ≡ take-answer (ring-lines (now (self .entry))) from to ⌝ }
         ensures refused { λ r. ⌜ (isOk r ≡ false → now (self .exit) ≡ now (self .entry)) ⌝ }
         ensures after { λ r. ⌜ (isOk r ≡ true → ring-lines (now (self .exit)) ≡ with-take (ring-lines (now (self .entry))) from to) ⌝ }
+        ensures lender { λ _. ⌜ name (now (self .exit) .bank .memory) ≡ name (now (self .entry) .bank .memory) ⌝ }
         ensures memory { λ _. ⌜ memory-of (now (self .exit) .bank) ≡ memory-of (now (self .entry) .bank) ⌝ }
     {
         self.check_line(from, to)?;

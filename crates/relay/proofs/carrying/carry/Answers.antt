@@ -1,33 +1,21 @@
-use mathlib.Core.Path.{sym}
+use Prim.Native.Nat.{_<_}
 use native.Mathlib.Omega.{arith}
-use Rattle.std.specs.Of.Vec.{vec-items}
-use Rattle.std.proofs.shelf.Tests.{false≢true}
+use lib.ListN.{length}
 use Rattle.relay.proofs.InOrder.{in-order}
 use Rattle.relay.proofs.Runs.{underway-none, underway-more, underway-all}
 use Rattle.relay.proofs.carrying.carry.Needs as need
 
-pub loop-step-holds : need.loop-step-holds
-loop-step-holds g c =
-    let e = c .in-Continue-answers .ensures tt .made in (e .1 .0, e .1 .1, underway-none _ _ _ (e .0))
+pub loop-line-holds : need.loop-line-holds
+loop-line-holds g c = underway-none _ _
 
-pub loop-step-again : need.loop-step-again
-loop-step-again g c =
-    let e = c .push-reserved .ensures in (
-      omega (arith, e .len, c .loop-step .inv .0),
-      omega (arith, e .capacity, c .loop-step .inv .1),
-      underway-more _ _ _ (c .args .steps .now) (c .loop-step .step-index) _ _ _ (c .make-step .result) (c .loop-step .inv .2) (omega arith) (c .make-step .ensures .answer) (c .make-step .ensures .lines) (e .items),
-    )
+pub loop-line-again : need.loop-line-again
+loop-line-again g c =
+    let h : c .loop-line .line-index < length (c .loop-line .log) = omega arith in
+    underway-more _ _ _ _ (c .loop-line .log) (c .loop-line .line-index) _ (c .make-step-line .result) (c .loop-line .inv) h (c .make-step-line .ensures .outcome) (c .make-step-line .ensures .lines)
 
 pub returns : need.returns
 returns g c =
     let before = g .E·Exchange .lines (c .args .exchange .now) in
-    let after = g .E·Exchange .lines (c .loop-step .exchange) in
-    let steps = c .args .steps .now in
-    let answers = vec-items (c .loop-step .answers) in
-    let end = underway-all before after steps (c .loop-step .step-index) answers (c .loop-step .inv .2) (omega arith) in
-    record {
-      answers = end .0;
-      lines = λ _. end .1;
-      in-order = in-order before after steps answers (end .0) (end .1);
-      refused = λ e. absurd (false≢true (sym e));
-    }
+    let after = g .E·Exchange .lines (c .loop-line .exchange) in
+    let end = underway-all before after (c .args .log .now) (c .loop-line .log) (c .loop-line .line-index) (c .loop-line .inv) (omega arith) in
+    record { log = end .0; lines = end .1; in-order = in-order before after (c .args .log .now) (c .loop-line .log) (end .0) (end .1) }

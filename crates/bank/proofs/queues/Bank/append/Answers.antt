@@ -1,5 +1,5 @@
 use borrow.Author.Needs.{needs}
-use mathlib.Core.Path.{_≡_, refl, ap, _∙_}
+use mathlib.Core.Path.{_≡_, refl, sym, ap, _∙_}
 use mathlib.Core.Bool.{cond, _&&_}
 use Prim.Native.Nat.{_<_, _+_, _*_}
 use native.Mathlib.Omega.{arith}
@@ -7,7 +7,7 @@ use lib.Dec.{leb}
 use lib.ListN.{length, set, length-set}
 use Rattle.bank.specs.Cells.{place}
 use Rattle.bank.specs.Meaning.{memory-of, queues-of, ring-of, list-in}
-use Rattle.bank.proofs.Lists.{ring, list-put}
+use Rattle.bank.proofs.Lists.{ring, list-put, next-free}
 use Rattle.bank.proofs.Room.{room}
 use Rattle.bank.proofs.queues.Bank.append.Needs as need
 
@@ -33,6 +33,8 @@ returns g c =
       lender = refl;
       memory =
           ap (λ i. set (memory-of b) i (c .args .item)) (c .place-at .ensures .value ∙ ap (place (b .places) q (ring-of (b .rings) q .first)) (c .waiting-n .ensures .length));
+      free = λ j k h z.
+          next-free (memory-of b) (queues-of b) (b .places) (b .rings) q n (c .waiting-n .ensures .length) hn j k h (z ∙ ap (place (b .places) q (ring-of (b .rings) q .first)) (sym (c .waiting-n .ensures .length)));
       after = λ j.
           ap (λ w. list-in memory′ w (b .places) rings′ j) kept
           ∙ ap (λ i. list-in (set (memory-of b) i (c .args .item)) (queues-of b) (b .places) rings′ j) (c .place-at .ensures .value)

@@ -20,6 +20,7 @@ returns g c =
     record {
       bays = rw ok (rw (q, le-leb n 12 (p .few), le-leb (n * (n - 1)) (n * (n - 1)) (omega arith)));
       places = c .make-bank-2 .ensures .places ∙ cond-true _ _ _ made ∙ sym (cond-true _ _ _ ok);
+      lender = c .make-bank-2 .ensures .lender;
       memory = c .make-bank-2 .ensures .memory;
       empty = λ i j. rw (c .make-bank-2 .ensures .empty) (cond-both _ _ _ (λ l. l ≡ []) (λ _. refl) (λ _. refl));
     }
