@@ -1,3 +1,4 @@
 pub mod Cells
 pub mod Meaning
 pub mod Answers
+pub mod Changes

@@ -1,15 +1,15 @@
 ghost use mathlib.Core.Path.{_≡_};
 ghost use mathlib.Core.Bool.{true, false, cond};
-ghost use mathlib.Core.List.{[], _∷_, _++_};
+ghost use mathlib.Core.List.{[]};
 ghost use Prim.Native.Nat.{ℕ, min, _<_};
-ghost use lib.Dec.{eqb};
-ghost use lib.ListN.{length, drop, set};
+ghost use lib.ListN.{length};
 ghost use denote.Ref.{name};
 ghost use Rattle.std.specs.Results.{isOk};
-ghost use Rattle.bank.specs.Cells.{place};
-ghost use Rattle.bank.specs.Meaning.{fits, memory-of, ring-of, queues-of, places-of, queue, next-place, Free};
 ghost use Rattle.std.specs.declared.result.Result.the-variants.{Ok};
+ghost use Rattle.bank.specs.Cells.{place};
+ghost use Rattle.bank.specs.Meaning.{fits, memory-of, ring-of, queues-of, places-of, queue};
 ghost use Rattle.bank.specs.Answers.{check-answer, put-answer, oldest, take-answer, count-answer};
+ghost use Rattle.bank.specs.Changes.{Added, Removed};
 use crate::refusals::Refusal;
 use crate::rings::Ring;
 
@@ -59,6 +59,7 @@ impl<'a, T: Copy> Bank<'a, T> {
         Bank::laid_out(memory, queues, places)
     }
 
+    // A bank of these numbers with nothing waiting.
     fn laid_out(memory: &'a mut [T], queues: u16, places: u16) -> Self
         ensures queues { λ r. ⌜ r .queues ≡ queues ⌝ }
         ensures places { λ r. ⌜ r .places ≡ places ⌝ }
@@ -75,7 +76,7 @@ impl<'a, T: Copy> Bank<'a, T> {
         }
     }
 
-    // Whether the memory has room for all queues.
+    // Whether the numbers are within the table of rings and the memory. In a bank that `make` gave they are.
     fn fits(&self) -> bool
         ensures { λ r. ⌜ r ≡ fits (now (self .entry)) ⌝ }
     {
@@ -107,6 +108,7 @@ impl<'a, T: Copy> Bank<'a, T> {
         Ok(self.waiting(q))
     }
 
+    // How many records wait in a queue that there is.
     fn waiting(&self, q: u16) -> u16
         requires { ⌜ q < queues-of (now self) ⌝ }
         ensures value { λ r. ⌜ r ≡ min (ring-of (now (self .entry) .rings) q .waiting) (now (self .entry) .places) ⌝ }
@@ -130,12 +132,7 @@ impl<'a, T: Copy> Bank<'a, T> {
     pub fn put(&mut self, q: u16, item: T) -> Result<(), Refusal>
         ensures answer { λ r. ⌜ r ≡ put-answer (now (self .entry)) q ⌝ }
         ensures refused { λ r. ⌜ (isOk r ≡ false → now (self .exit) ≡ now (self .entry)) ⌝ }
-        ensures queues { λ _. ⌜ queues-of (now (self .exit)) ≡ queues-of (now (self .entry)) ⌝ }
-        ensures places { λ _. ⌜ places-of (now (self .exit)) ≡ places-of (now (self .entry)) ⌝ }
-        ensures lender { λ _. ⌜ name (now (self .exit) .memory) ≡ name (now (self .entry) .memory) ⌝ }
-        ensures memory { λ r. ⌜ (isOk r ≡ true → memory-of (now (self .exit)) ≡ set (memory-of (now (self .entry))) (next-place (now (self .entry)) q) item) ⌝ }
-        ensures free { λ r. ⌜ (isOk r ≡ true → Free (now (self .entry)) (next-place (now (self .entry)) q)) ⌝ }
-        ensures after { λ r. ⌜ (isOk r ≡ true → (j : ℕ) → queue (now (self .exit)) j ≡ cond (eqb j q) (queue (now (self .entry)) q ++ item ∷ []) (queue (now (self .entry)) j)) ⌝ }
+        ensures accepted { λ r. ⌜ (isOk r ≡ true → Added (now (self .entry)) (now (self .exit)) q item) ⌝ }
     {
         if q >= self.queues() {
             return Err(Refusal::NoQueue);
@@ -151,12 +148,7 @@ impl<'a, T: Copy> Bank<'a, T> {
     fn append(&mut self, q: u16, item: T)
         requires queue { ⌜ q < queues-of (now self) ⌝ }
         requires room { ⌜ length (queue (now self) q) < places-of (now self) ⌝ }
-        ensures queues { λ _. ⌜ queues-of (now (self .exit)) ≡ queues-of (now (self .entry)) ⌝ }
-        ensures places { λ _. ⌜ places-of (now (self .exit)) ≡ places-of (now (self .entry)) ⌝ }
-        ensures lender { λ _. ⌜ name (now (self .exit) .memory) ≡ name (now (self .entry) .memory) ⌝ }
-        ensures memory { λ _. ⌜ memory-of (now (self .exit)) ≡ set (memory-of (now (self .entry))) (next-place (now (self .entry)) q) item ⌝ }
-        ensures free { λ _. ⌜ Free (now (self .entry)) (next-place (now (self .entry)) q) ⌝ }
-        ensures after { λ _. ⌜ ((j : ℕ) → queue (now (self .exit)) j ≡ cond (eqb j q) (queue (now (self .entry)) q ++ item ∷ []) (queue (now (self .entry)) j)) ⌝ }
+        ensures { λ _. ⌜ Added (now (self .entry)) (now (self .exit)) q item ⌝ }
     {
         let n = self.waiting(q);
         let at = self.place(q, n);
@@ -172,11 +164,7 @@ impl<'a, T: Copy> Bank<'a, T> {
     pub fn take(&mut self, q: u16) -> Result<T, Refusal>
         ensures answer { λ r. ⌜ r ≡ take-answer (now (self .entry)) q ⌝ }
         ensures refused { λ r. ⌜ (isOk r ≡ false → now (self .exit) ≡ now (self .entry)) ⌝ }
-        ensures queues { λ _. ⌜ queues-of (now (self .exit)) ≡ queues-of (now (self .entry)) ⌝ }
-        ensures places { λ _. ⌜ places-of (now (self .exit)) ≡ places-of (now (self .entry)) ⌝ }
-        ensures lender { λ _. ⌜ name (now (self .exit) .memory) ≡ name (now (self .entry) .memory) ⌝ }
-        ensures memory { λ _. ⌜ memory-of (now (self .exit)) ≡ memory-of (now (self .entry)) ⌝ }
-        ensures after { λ r. ⌜ (isOk r ≡ true → (j : ℕ) → queue (now (self .exit)) j ≡ cond (eqb j q) (drop 1 (queue (now (self .entry)) q)) (queue (now (self .entry)) j)) ⌝ }
+        ensures accepted { λ r. ⌜ (isOk r ≡ true → Removed (now (self .entry)) (now (self .exit)) q) ⌝ }
     {
         if q >= self.queues() {
             return Err(Refusal::NoQueue);
@@ -192,11 +180,7 @@ impl<'a, T: Copy> Bank<'a, T> {
         requires queue { ⌜ q < queues-of (now self) ⌝ }
         requires waiting { ⌜ 0 < length (queue (now self) q) ⌝ }
         ensures answer { λ r. ⌜ Ok r ≡ oldest (queue (now (self .entry)) q) ⌝ }
-        ensures queues { λ _. ⌜ queues-of (now (self .exit)) ≡ queues-of (now (self .entry)) ⌝ }
-        ensures places { λ _. ⌜ places-of (now (self .exit)) ≡ places-of (now (self .entry)) ⌝ }
-        ensures lender { λ _. ⌜ name (now (self .exit) .memory) ≡ name (now (self .entry) .memory) ⌝ }
-        ensures memory { λ _. ⌜ memory-of (now (self .exit)) ≡ memory-of (now (self .entry)) ⌝ }
-        ensures after { λ _. ⌜ ((j : ℕ) → queue (now (self .exit)) j ≡ cond (eqb j q) (drop 1 (queue (now (self .entry)) q)) (queue (now (self .entry)) j)) ⌝ }
+        ensures removed { λ _. ⌜ Removed (now (self .entry)) (now (self .exit)) q ⌝ }
     {
         let n = self.waiting(q);
         let at = self.place(q, 0);

@@ -2,12 +2,13 @@ ghost use mathlib.Core.Path.{_≡_};
 ghost use mathlib.Core.Bool.{true, false, cond};
 ghost use mathlib.Core.List.{[]};
 ghost use Prim.Native.Nat.{ℕ};
-ghost use lib.ListN.{length, set};
+ghost use lib.ListN.{length};
 ghost use denote.Ref.{name};
 ghost use Rattle.std.specs.Results.{isOk};
 ghost use Rattle.std.specs.Vec.{made};
 ghost use Rattle.std.specs.declared.result.Result.the-variants.{Ok};
-ghost use Rattle.bank.specs.Meaning.{memory-of, next-place};
+ghost use Rattle.bank.specs.Meaning.{memory-of};
+ghost use Rattle.bank.specs.Changes.{Added, Removed};
 ghost use Rattle.bank.specs.Answers.{number as bank-number};
 ghost use Rattle.exchange.specs.Lines.{joins, with-put, with-take};
 ghost use Rattle.exchange.specs.Answers.{number, check-answer, on-line, put-answer, take-answer, count-answer};
@@ -139,8 +140,7 @@ impl<'a, K: Copy> RingLines<'a, K> {
         ensures answer { λ r. ⌜ r ≡ put-answer (ring-lines (now (self .entry))) from to ⌝ }
         ensures refused { λ r. ⌜ (isOk r ≡ false → now (self .exit) ≡ now (self .entry)) ⌝ }
         ensures after { λ r. ⌜ (isOk r ≡ true → ring-lines (now (self .exit)) ≡ with-put (ring-lines (now (self .entry))) from to message) ⌝ }
-        ensures lender { λ _. ⌜ name (now (self .exit) .bank .memory) ≡ name (now (self .entry) .bank .memory) ⌝ }
-        ensures memory { λ r. ⌜ (isOk r ≡ true → memory-of (now (self .exit) .bank) ≡ set (memory-of (now (self .entry) .bank)) (next-place (now (self .entry) .bank) (queue-of (bays-of (now (self .entry))) from to)) message) ⌝ }
+        ensures bank { λ r. ⌜ (isOk r ≡ true → Added (now (self .entry) .bank) (now (self .exit) .bank) (queue-of (bays-of (now (self .entry))) from to) message) ⌝ }
     {
         let q = self.queue(from, to);
         line_answer(self.bank.put(q, message))
@@ -152,8 +152,7 @@ impl<'a, K: Copy> RingLines<'a, K> {
         ensures answer { λ r. ⌜ r ≡ take-answer (ring-lines (now (self .entry))) from to ⌝ }
         ensures refused { λ r. ⌜ (isOk r ≡ false → now (self .exit) ≡ now (self .entry)) ⌝ }
         ensures after { λ r. ⌜ (isOk r ≡ true → ring-lines (now (self .exit)) ≡ with-take (ring-lines (now (self .entry))) from to) ⌝ }
-        ensures lender { λ _. ⌜ name (now (self .exit) .bank .memory) ≡ name (now (self .entry) .bank .memory) ⌝ }
-        ensures memory { λ _. ⌜ memory-of (now (self .exit) .bank) ≡ memory-of (now (self .entry) .bank) ⌝ }
+        ensures bank { λ r. ⌜ (isOk r ≡ true → Removed (now (self .entry) .bank) (now (self .exit) .bank) (queue-of (bays-of (now (self .entry))) from to)) ⌝ }
     {
         let q = self.queue(from, to);
         line_answer(self.bank.take(q))
@@ -182,25 +181,23 @@ pub impl<'a, K: Copy> Exchange for RingLines<'a, K> as RingLinesExchange {
         self.count_on(from, to)
     }
 
-    // Writes one place of the memory, the next one of the line's queue.
+    // The line's queue gets the message, and no other queue changes.
     fn put(&mut self, from: u16, to: u16, message: K) -> Result<(), Refusal>
         ensures answer { λ r. ⌜ r ≡ put-answer (ring-lines (now (self .entry))) from to ⌝ }
         ensures refused { λ r. ⌜ (isOk r ≡ false → now (self .exit) ≡ now (self .entry)) ⌝ }
         ensures after { λ r. ⌜ (isOk r ≡ true → ring-lines (now (self .exit)) ≡ with-put (ring-lines (now (self .entry))) from to message) ⌝ }
-        ensures lender { λ _. ⌜ name (now (self .exit) .bank .memory) ≡ name (now (self .entry) .bank .memory) ⌝ }
-        ensures memory { λ r. ⌜ (isOk r ≡ true → memory-of (now (self .exit) .bank) ≡ set (memory-of (now (self .entry) .bank)) (next-place (now (self .entry) .bank) (queue-of (bays-of (now (self .entry))) from to)) message) ⌝ }
+        ensures bank { λ r. ⌜ (isOk r ≡ true → Added (now (self .entry) .bank) (now (self .exit) .bank) (queue-of (bays-of (now (self .entry))) from to) message) ⌝ }
     {
         self.check_line(from, to)?;
         self.put_on(from, to, message)
     }
 
-    // Writes no place of the memory.
+    // The line's queue loses its oldest message, and no other queue changes.
     fn take(&mut self, from: u16, to: u16) -> Result<K, Refusal>
         ensures answer { λ r. ⌜ r ≡ take-answer (ring-lines (now (self .entry))) from to ⌝ }
         ensures refused { λ r. ⌜ (isOk r ≡ false → now (self .exit) ≡ now (self .entry)) ⌝ }
         ensures after { λ r. ⌜ (isOk r ≡ true → ring-lines (now (self .exit)) ≡ with-take (ring-lines (now (self .entry))) from to) ⌝ }
-        ensures lender { λ _. ⌜ name (now (self .exit) .bank .memory) ≡ name (now (self .entry) .bank .memory) ⌝ }
-        ensures memory { λ _. ⌜ memory-of (now (self .exit) .bank) ≡ memory-of (now (self .entry) .bank) ⌝ }
+        ensures bank { λ r. ⌜ (isOk r ≡ true → Removed (now (self .entry) .bank) (now (self .exit) .bank) (queue-of (bays-of (now (self .entry))) from to)) ⌝ }
     {
         self.check_line(from, to)?;
         self.take_from(from, to)

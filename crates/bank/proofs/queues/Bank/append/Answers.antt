@@ -35,7 +35,7 @@ returns g c =
           ap (λ i. set (memory-of b) i (c .args .item)) (c .place-at .ensures .value ∙ ap (place (b .places) q (ring-of (b .rings) q .first)) (c .waiting-n .ensures .length));
       free = λ j k h z.
           next-free (memory-of b) (queues-of b) (b .places) (b .rings) q n (c .waiting-n .ensures .length) hn j k h (z ∙ ap (place (b .places) q (ring-of (b .rings) q .first)) (sym (c .waiting-n .ensures .length)));
-      after = λ j.
+      lists = λ j.
           ap (λ w. list-in memory′ w (b .places) rings′ j) kept
           ∙ ap (λ i. list-in (set (memory-of b) i (c .args .item)) (queues-of b) (b .places) rings′ j) (c .place-at .ensures .value)
           ∙ list-put (memory-of b) (queues-of b) (b .places) (b .rings) q n (c .pre .queue) (c .waiting-n .ensures .value) (s .memory) hr (c .args .item) j hn;

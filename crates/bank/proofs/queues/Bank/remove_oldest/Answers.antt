@@ -21,9 +21,11 @@ returns g c =
     let is : x ≡ getD (memory-of b) _ x = c .index-self-at .is ∙ ap (λ i. getD (memory-of b) i x) (c .place-at .ensures .value) in
     record {
       answer = rw (list-split (memory-of b) (queues-of b) (b .places) (b .rings) q n (c .pre .queue) (c .waiting-n .ensures .value) (s .memory) hr x hn is) (ap Ok (sym (c .index-self-at .is)));
-      queues = refl;
-      places = refl;
-      lender = refl;
-      memory = refl;
-      after = λ j. list-take (memory-of b) (queues-of b) (b .places) (b .rings) q n (c .pre .queue) (c .waiting-n .ensures .value) (s .memory) hr x j hn is;
+      removed = record {
+        queues = refl;
+        places = refl;
+        lists = λ j. list-take (memory-of b) (queues-of b) (b .places) (b .rings) q n (c .pre .queue) (c .waiting-n .ensures .value) (s .memory) hr x j hn is;
+        lender = refl;
+        memory = refl;
+      };
     }
