@@ -120,3 +120,14 @@ fn largest_lines_share_no_place(rt: LibcRuntime) -> Result<(), Fail> {
     }
     check_eq(lines.count(11, 10), Ok(1023))
 }
+
+#[test]
+fn numbers_of_the_refusals() -> Result<(), Fail> {
+    check_eq(Refusal::Bays.number(), 1)?;
+    check_eq(Refusal::Places.number(), 2)?;
+    check_eq(Refusal::Memory.number(), 3)?;
+    check_eq(Refusal::NoBay.number(), 4)?;
+    check_eq(Refusal::SameBay.number(), 5)?;
+    check_eq(Refusal::Full.number(), 6)?;
+    check_eq(Refusal::Empty.number(), 7)
+}
