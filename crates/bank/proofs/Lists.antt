@@ -50,9 +50,6 @@ rings-new (suc n) (suc q) = rings-new n q
 
 -- ---- a put and a take on queue q, in which n records wait
 module _ {T : Type 0} (memory : List T) (queues places : ℕ) (rings : List Ring) (q n : ℕ) (hq : q < queues) (en : n ≡ min (ring-of rings q .waiting) places) (hm : queues * places ≤ length memory) (hr : q < length rings) where
-  start : ℕ
-  start = ring-of rings q .first
-
   pub put-same : (x : T) → n < places → list-in (set memory (place places q (ring-of rings q .first) n) x) queues places (set rings q (ring (ring-of rings q .first) (n + 1))) q ≡ list-in memory queues places rings q ++ x ∷ []
   unfolding cells
   put-same x hn =

@@ -11,9 +11,9 @@ use Rattle.std.specs.Results.{isOk}
 use Rattle.std.specs.declared.result.Result.{Result}
 use Rattle.std.specs.declared.result.Result.the-variants.{Ok, Err}
 use Rattle.std.proofs.shelf.Lists.{append-nil}
-use Rattle.std.proofs.shelf.Tests.{cases-bool, and-parts, eqb-true, cond-true, cond-false}
+use Rattle.std.proofs.shelf.Tests.{cases-bool, and-parts, eqb-true}
 use Rattle.exchange.specs.Lines.{Lines, same-pair, with-put, with-take}
-use Rattle.exchange.specs.Answers.{put-answer, take-answer, oldest, on-line}
+use Rattle.exchange.specs.Answers.{put-answer, take-answer, oldest}
 use Rattle.exchange.specs.declared.messages.Message.{Message}
 use Rattle.exchange.specs.declared.refusals.Refusal.{Refusal}
 use Rattle.exchange.specs.declared.refusals.Refusal.the-variants.{NoBay, SameBay}

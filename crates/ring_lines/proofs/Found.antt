@@ -19,7 +19,7 @@ use Rattle.bank.specs.declared.refusals.Refusal.the-variants as queues
 use Rattle.exchange.specs.Lines.{same-pair, two-bays, joins}
 use Rattle.exchange.specs.Answers.{put-answer, take-answer, count-answer, oldest}
 use Rattle.exchange.specs.declared.refusals.Refusal.{Refusal}
-use Rattle.exchange.specs.declared.refusals.Refusal.the-variants.{Full, Empty}
+use Rattle.exchange.specs.declared.refusals.Refusal.the-variants.{Full}
 use Rattle.exchange.proofs.OnLine.{joins-answers}
 use Rattle.ring_lines.specs.Meaning.{queue-of, bays-of, ring-lines, line-answer}
 use Rattle.ring_lines.specs.declared.lines.RingLines.{RingLines}
