@@ -1,4 +1,6 @@
 // Carries a fixed list of messages over the lines of a small depot, and prints what became of each.
+#![tactic(auto)]
+
 mod carrying;
 mod entries;
 mod list;

@@ -8,7 +8,6 @@ use Rattle.bank.specs.declared.refusals.Refusal as bank_refusal
 use Rattle.bank.specs.declared.refusals.Refusal.TheVariants as queues
 use Rattle.exchange.specs.Lines.{same_pair, two_bays, joins}
 use Rattle.exchange.specs.Answers.{put_answer, take_answer, count_answer, oldest}
-use Rattle.exchange.specs.declared.refusals.Refusal.{Refusal}
 use Rattle.exchange.specs.declared.refusals.Refusal.TheVariants.{Full}
 use Rattle.exchange.proofs.OnLine.{joins_answers}
 use Rattle.ring_lines.specs.Meaning.{queue_of, bays_of, ring_lines, line_answer_of}
@@ -63,7 +62,7 @@ module _ {K : Type 0} (x : RingLines K) (i j q : ℕ) (at : Found x i j q) where
   inside : leb (queues_of x.bank) q ≡ false
   inside = lt-leb (queues_of x.bank) q at.inside
 
-  pub put_is : put_answer (ring_lines x) i j ≡ line_answer_of (bank.put-answer x.bank q)
+  pub put_is : put_answer (ring_lines x) i j ≡ line_answer_of (bank.put_answer x.bank q)
   put_is =
       joins_answers (ring_lines x) i j (cond (leb (places_of x.bank) (length ((ring_lines x).at i j))) (Err Full) (Ok tt)) at.leads
       ∙ ap (λ l. cond (leb (places_of x.bank) (length l)) (Err Full) (Ok tt)) at.here
@@ -72,13 +71,13 @@ module _ {K : Type 0} (x : RingLines K) (i j q : ℕ) (at : Found x i j q) where
       (λ t. cond t (Err Full) (Ok (tt {0})) ≡ line_answer_of (cond t (Err queues.Full) (Ok (tt {0}))))
       [ true ↦ refl | false ↦ refl ])
 
-  pub take_is : take_answer (ring_lines x) i j ≡ line_answer_of (bank.take-answer x.bank q)
+  pub take_is : take_answer (ring_lines x) i j ≡ line_answer_of (bank.take_answer x.bank q)
   take_is =
       joins_answers (ring_lines x) i j (oldest ((ring_lines x).at i j)) at.leads
       ∙ ap oldest at.here
       ∙ rw inside (oldest_named (queue x.bank q))
 
-  pub count_is : count_answer (ring_lines x) i j ≡ line_answer_of (bank.count-answer x.bank q)
+  pub count_is : count_answer (ring_lines x) i j ≡ line_answer_of (bank.count_answer x.bank q)
   count_is =
       joins_answers (ring_lines x) i j (Ok (length ((ring_lines x).at i j))) at.leads
       ∙ ap (λ l. Ok (length l)) at.here

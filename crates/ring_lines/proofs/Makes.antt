@@ -21,7 +21,7 @@ pub passed_ok : (len n p : ℕ) → Passed len n p → is_ok (check_answer len n
 passed_ok len n p h = rw (le-ltb n 2 h.low, le-ltb 12 n h.few, le-ltb p 1 h.some, le-ltb 1024 p h.small, le-ltb len (n * (n - 1) * p) h.fits)
 
 -- a bank of a queue for each pair can then be made
-pub bank_ok : (len n p : ℕ) → Passed len n p → is_ok (bank.check-answer len (n * (n - 1)) p) ≡ true
+pub bank_ok : (len n p : ℕ) → Passed len n p → is_ok (bank.check_answer len (n * (n - 1)) p) ≡ true
 bank_ok len n p h =
     let a : 1 ≤ n * (n - 1) = mul-le 1 1 n (n - 1) (omega (arith, h.low)) (omega (arith, h.low)) in
     rw (le-ltb (n * (n - 1)) 1 a, le-ltb 132 (n * (n - 1)) (square_fits n h.few), le-ltb p 1 h.some, le-ltb 1024 p h.small, le-ltb len (n * (n - 1) * p) h.fits)

@@ -9,7 +9,7 @@ loop-line-init g c = underway_none _ _
 pub loop-line-preserved : goal.loop-line-preserved
 loop-line-preserved g c =
     let h : c.loop-line.line-index < length c.loop-line.log = omega arith in
-    underway_more _ _ _ _ c.loop-line.log c.loop-line.line-index _ c.make-step-line.result c.loop-line.invariant h c.make-step-line.ensures.outcome c.make-step-line.ensures.lines
+    underway_more _ _ _ _ c.loop-line.log c.loop-line.line-index _ c.make_step-line.result c.loop-line.invariant h c.make_step-line.ensures.outcome c.make_step-line.ensures.lines
 
 pub returns : goal.returns
 returns g c =

@@ -7,7 +7,7 @@ use Rattle.relay.proofs.entries.Entry.log.Goals as goal
 
 pub loop-step-preserved : goal.loop-step-preserved
 loop-step-preserved c =
-    let ok : is_ok c.push.result ≡ true = ap is_ok c.in-ok-push.was in
+    let ok : is_ok c.push.result ≡ true = ap is_ok c.in_ok-push.was in
     let items = rw ok at c.push.ensures.items in
     let more = map_more pending c.args.steps.now c.loop-step.step-index (Put 0 0 Request) (omega arith) in cc
 

@@ -8,4 +8,4 @@ returns g c =
     let x = c.args.self.now in
     let q = c.queue-q.result in
     let at = found x c.args.from c.args.to q c.requires c.queue-q.ensures in
-    c.line-answer.ensures ∙ ap line_answer_of c.count.ensures ∙ sym (count_is x c.args.from c.args.to q at)
+    c.line_answer.ensures ∙ ap line_answer_of c.count.ensures ∙ sym (count_is x c.args.from c.args.to q at)

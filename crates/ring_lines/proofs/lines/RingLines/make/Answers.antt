@@ -8,7 +8,7 @@ pub returns : goal.returns
 returns g c =
     let n = c.args.bays in
     let len = length c.args.memory.now in
-    let p = passed len n c.args.places (ap is_err (sym c.check.ensures) ∙ sym c.is-err.ensures.value ∙ c.if-is-err.false) in
+    let p = passed len n c.args.places (ap is_err (sym c.check.ensures) ∙ sym c.is_err.ensures.value ∙ c.if-is_err.false) in
     let ok = passed_ok len n c.args.places p in
     let made = bank_ok len n c.args.places p in
     let q : queues_of c.make-bank-2.result ≡ n * (n - 1) = c.make-bank-2.ensures.queues ∙ cond-true _ _ _ made in

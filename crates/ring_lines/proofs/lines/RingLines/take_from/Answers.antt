@@ -11,9 +11,9 @@ returns g c =
     let q = c.queue-q.result in
     let at = found x c.args.from c.args.to q c.requires c.queue-q.ensures in
     let b = c.take.new.self in
-    let test = ap is_ok c.line-answer.ensures ∙ answer_test c.take.result in
+    let test = ap is_ok c.line_answer.ensures ∙ answer_test c.take.result in
     record {
-      answer = c.line-answer.ensures ∙ ap line_answer_of c.take.ensures.answer ∙ sym (take_is x c.args.from c.args.to q at);
+      answer = c.line_answer.ensures ∙ ap line_answer_of c.take.ensures.answer ∙ sym (take_is x c.args.from c.args.to q at);
       refused = λ f. ap (λ y. record { bank = y; bays = x.bays }) (c.take.ensures.refused (sym test ∙ f));
       after = λ t.
           let e = c.take.ensures.accepted (sym test ∙ t) in
