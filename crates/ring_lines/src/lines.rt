@@ -17,7 +17,8 @@ pub const MOST_BAYS: u16 = 12;
 
 // What a bank's refusal is called on a line. Its number stays.
 fn line_refusal(refusal: bank::Refusal) -> Refusal
-    ensures { (result ≡ line_refusal_of refusal) × (number result ≡ bank_number refusal) }
+    ensures named { result ≡ line_refusal_of refusal }
+    ensures numbered { number result ≡ bank_number refusal }
 {
     match refusal {
         bank::Refusal::Queues => Refusal::Bays,
