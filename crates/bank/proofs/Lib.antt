@@ -1,3 +1,3 @@
 pub mod Cells
 pub mod Lists
-pub mod Room
+pub mod Banks

@@ -1,5 +1,5 @@
 -- What the calls of a bank answer. The conditions of a call are tried in the order written; the first that holds gives the refusal.
-use Rattle.std.specs.Prelude.{ℕ, ◌*◌, cond, ◌||◌, List, [], ◌∷◌, length, Ok, Err, Result, nat_le, nat_lt}
+use Rattle.std.specs.Prelude.{ℕ, ◌*◌, cond, ◌||◌, length, slice_get, ok_or, Ok, Err, Result, nat_le, nat_lt}
 use Rattle.bank.specs.Meaning.{queues_of, places_of, queue}
 use Rattle.bank.specs.declared.queues.Bank.{Bank}
 use Rattle.bank.specs.declared.refusals.Refusal.{Refusal}
@@ -22,11 +22,6 @@ check_answer len queues places =
     (cond (nat_lt len (queues * places)) (Err Memory)
     (Ok tt)))
 
--- the oldest of a list, or the refusal where it is empty
-abbrev pub oldest : {T : Type 0} → List T → Result T Refusal
-oldest [] = Err Empty
-oldest (x ∷ xs) = Ok x
-
 module _ {T : Type 0} where
   -- what a put in queue q answers
   abbrev pub put_answer : Bank T → ℕ → Result (Unit {0}) Refusal
@@ -35,11 +30,11 @@ module _ {T : Type 0} where
       (cond (nat_le (places_of b) (length (queue b q))) (Err Full)
       (Ok tt))
 
-  -- what a take from queue q answers
+  -- what a take from queue q answers: the oldest, if there is one
   abbrev pub take_answer : Bank T → ℕ → Result T Refusal
   take_answer b q =
       cond (nat_le (queues_of b) q) (Err NoQueue)
-      (oldest (queue b q))
+      (ok_or (slice_get (queue b q) 0) Empty)
 
   -- what a count of queue q answers
   abbrev pub count_answer : Bank T → ℕ → Result ℕ Refusal

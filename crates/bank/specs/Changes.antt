@@ -1,25 +1,26 @@
 -- What an accepted call makes of a bank.
-use Rattle.std.specs.Prelude.{◌≡◌, ℕ, cond, [], ◌∷◌, ◌++◌, drop, ◌==◌, slice_set}
-use Rattle.bank.specs.Meaning.{memory_of, queues_of, places_of, queue, next_place, Free}
+use Rattle.std.specs.Prelude.{◌≡◌, ℕ, cond, List, [], ◌∷◌, ◌++◌, drop, ◌==◌, slice_set}
+use Rattle.bank.specs.Meaning.{lender_of, memory_of, queues_of, places_of, queue, next_place, Free}
 use Rattle.bank.specs.declared.queues.Bank.{Bank}
+
+-- b' is b with f of its list in queue q, over the same memory; the numbers and all other lists stay
+pub record Changes {T : Type 0} (b b' : Bank T) (q : ℕ) (f : List T → List T) : Type 0 where
+  pub queues : queues_of b' ≡ queues_of b
+  pub places : places_of b' ≡ places_of b
+  pub lists : (j : ℕ) → queue b' j ≡ cond (j == q) (f (queue b q)) (queue b j)
+  pub lender : lender_of b' ≡ lender_of b
 
 -- b' is b after an accepted put of x in queue q
 pub record Added {T : Type 0} (b b' : Bank T) (q : ℕ) (x : T) : Type 0 where
-  pub queues : queues_of b' ≡ queues_of b
-  pub places : places_of b' ≡ places_of b
-  -- x is the newest of its queue, and all other queues stay
-  pub lists : (j : ℕ) → queue b' j ≡ cond (j == q) (queue b q ++ x ∷ []) (queue b j)
-  -- it is the same memory, of which one place is written, where nothing waited
-  pub lender : b'.memory.ghost_name ≡ b.memory.ghost_name
+  -- x is the newest of its queue
+  pub changes : Changes b b' q (λ l. l ++ x ∷ [])
+  -- one place of the memory is written, where nothing waited
   pub memory : memory_of b' ≡ slice_set (memory_of b) (next_place b q) x
   pub free : Free b (next_place b q)
 
 -- b' is b after an accepted take from queue q
 pub record Removed {T : Type 0} (b b' : Bank T) (q : ℕ) : Type 0 where
-  pub queues : queues_of b' ≡ queues_of b
-  pub places : places_of b' ≡ places_of b
-  -- the queue has lost its oldest, and all other queues stay
-  pub lists : (j : ℕ) → queue b' j ≡ cond (j == q) (drop 1 (queue b q)) (queue b j)
-  -- it is the same memory, and nothing in it is written
-  pub lender : b'.memory.ghost_name ≡ b.memory.ghost_name
+  -- the queue has lost its oldest
+  pub changes : Changes b b' q (drop 1)
+  -- nothing in the memory is written
   pub memory : memory_of b' ≡ memory_of b

@@ -1,4 +1,5 @@
 pub mod Cells
+pub mod Rings
 pub mod Meaning
 pub mod Answers
 pub mod Changes

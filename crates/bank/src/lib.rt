@@ -1,5 +1,5 @@
-// A bank of queues: many first-in-first-out queues of equally many places, in one borrowed memory,
-// for every kind of record that can be copied.
+//! A bank of queues: many first-in-first-out queues of equally many places, in one borrowed memory,
+//! for every kind of record that can be copied.
 #![tactic(auto)]
 
 mod queues;

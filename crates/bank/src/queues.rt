@@ -1,36 +1,48 @@
-ghost use Rattle.std.specs.Prelude.{◌≡◌, ℕ, ◌<◌, min, true, false, [], length, is_ok, if◌then◌else◌, Ok};
-ghost use Rattle.bank.specs.Cells.{place};
-ghost use Rattle.bank.specs.Meaning.{fits, memory_of, ring_of, queues_of, places_of, queue};
-ghost use Rattle.bank.specs.Answers.{check_answer, put_answer, oldest, take_answer, count_answer};
-ghost use Rattle.bank.specs.Changes.{Added, Removed};
+ghost use Rattle.std.specs.Prelude.{◌≡◌, ℕ, ◌≤◌, ◌*◌, length};
+ghost use Rattle.bank.specs.Rings.{ring_of};
+ghost use Rattle.bank.specs.declared.queues.TheConstants.{MOST_QUEUES};
 
 use crate::refusals::Refusal;
 use crate::rings::Ring;
 
-// The largest number of queues, and of places in each.
+/// The largest number of queues.
 pub const MOST_QUEUES: u16 = 132;
 
+/// The largest number of places in each.
 pub const MOST_PLACES: u16 = 1024;
 
-// Many queues in one borrowed memory. Queue q has the places q * places up to (q + 1) * places of the memory, and
-// its records lie in them as in a ring.
+/// Many queues in one borrowed memory. Queue q has the places q * places up to (q + 1) * places of the memory, and
+/// its records lie in them as in a ring.
 #[derive(Drop)]
 pub struct Bank<'a, T: Copy> {
     memory: &'a mut [T],
     queues: u16,
     places: u16,
     rings: [Ring; MOST_QUEUES as usize],
+    // the table has a ring for each queue
+    ghost few: { queues ≤ MOST_QUEUES },
+    // the memory has all the queues' places
+    ghost room: { queues * places ≤ length memory.now },
+    // no queue holds more records than it has places
+    ghost short: { (q : ℕ) → (ring_of rings q).waiting ≤ places },
 }
 
 impl<'a, T: Copy> Bank<'a, T> {
-    // Whether so many queues of so many places can be made in the memory.
+    ghost use Rattle.std.specs.Prelude.{◌≡◌, ℕ, ◌<◌, ◌≤◌, ◌*◌, true, false, [], length, is_ok, if◌then◌else◌, Some, slice_get};
+    ghost use Rattle.bank.specs.Cells.{place};
+    ghost use Rattle.bank.specs.Rings.{ring_of};
+    ghost use Rattle.bank.specs.Meaning.{lender_of, memory_of, queues_of, places_of, queue};
+    ghost use Rattle.bank.specs.Answers.{check_answer, put_answer, take_answer, count_answer};
+    ghost use Rattle.bank.specs.Changes.{Added, Removed};
+
+    /// Whether so many queues of so many places can be made in the memory.
     pub fn check(memory: &[T], queues: u16, places: u16) -> Result<(), Refusal>
         ensures { result ≡ check_answer (length memory.now) queues places }
     {
-        if queues < 1 || queues > MOST_QUEUES {
+        if !(1..=MOST_QUEUES).contains(&queues) {
             return Err(Refusal::Queues);
         }
-        if places < 1 || places > MOST_PLACES {
+        if !(1..=MOST_PLACES).contains(&places) {
             return Err(Refusal::Places);
         }
         if memory.len() < queues as usize * places as usize {
@@ -39,82 +51,67 @@ impl<'a, T: Copy> Bank<'a, T> {
         Ok(())
     }
 
-    // A bank of empty queues, which leaves the memory as it is. From what `check` refuses: no queues and no places.
+    /// A bank of empty queues, which leaves the memory as it is. From what `check` refuses: no queues and no places.
     pub fn make(memory: &'a mut [T], queues: u16, places: u16) -> Self
         ensures queues { queues_of result ≡ (if is_ok (check_answer (length memory.old) queues places) then queues else 0) }
         ensures places { places_of result ≡ (if is_ok (check_answer (length memory.old) queues places) then places else 0) }
-        ensures lender { result.memory.ghost_name ≡ memory.entry.ghost_name }
+        ensures lender { lender_of result ≡ memory.entry.ghost_name }
         ensures memory { memory_of result ≡ memory.old }
         ensures empty { (q : ℕ) → queue result q ≡ [] }
     {
-        if Bank::check(memory, queues, places).is_err() {
-            return Bank::laid_out(memory, 0, 0);
+        match Bank::check(memory, queues, places) {
+            Ok(()) => Bank::laid_out(memory, queues, places),
+            Err(_) => Bank::laid_out(memory, 0, 0),
         }
-        Bank::laid_out(memory, queues, places)
     }
 
     // A bank of these numbers with nothing waiting.
     fn laid_out(memory: &'a mut [T], queues: u16, places: u16) -> Self
-        ensures queues { result.queues ≡ queues }
-        ensures places { result.places ≡ places }
-        ensures lender { result.memory.ghost_name ≡ memory.entry.ghost_name }
+        requires few { queues ≤ MOST_QUEUES }
+        requires room { queues * places ≤ length memory.old }
+        ensures queues { queues_of result ≡ queues }
+        ensures places { places_of result ≡ places }
+        ensures lender { lender_of result ≡ memory.entry.ghost_name }
         ensures memory { memory_of result ≡ memory.old }
         ensures empty { (q : ℕ) → queue result q ≡ [] }
     {
-        let rings = [Ring::EMPTY; MOST_QUEUES as usize];
         Bank {
             memory,
             queues,
             places,
-            rings,
+            rings: [Ring::EMPTY; MOST_QUEUES as usize],
         }
     }
 
-    // Whether the numbers are within the table of rings and the memory. In a bank that `make` gave they are.
-    fn fits(&self) -> bool
-        ensures { result ≡ fits self.now }
-    {
-        self.queues <= MOST_QUEUES
-            && self.queues as usize * self.places as usize <= self.memory.len()
-    }
-
-    // How many queues there are.
+    /// How many queues there are.
     pub fn queues(&self) -> u16
         ensures { result ≡ queues_of self.now }
     {
-        if self.fits() { self.queues } else { 0 }
+        self.queues
     }
 
-    // How many places each queue has.
+    /// How many places each queue has.
     pub fn places(&self) -> u16
         ensures { result ≡ places_of self.now }
     {
-        if self.fits() { self.places } else { 0 }
+        self.places
     }
 
-    // How many records wait in queue q.
+    /// How many records wait in queue q.
+    #[tactic(auto, using(crate::proofs::Banks::length_queue))]
     pub fn count(&self, q: u16) -> Result<u16, Refusal>
         ensures { result ≡ count_answer self.now q }
     {
-        if q >= self.queues() {
+        if q >= self.queues {
             return Err(Refusal::NoQueue);
         }
-        Ok(self.waiting(q))
-    }
-
-    // How many records wait in a queue that there is.
-    fn waiting(&self, q: u16) -> u16
-        requires { q < queues_of self.now }
-        ensures value { result ≡ min (ring_of self.now.rings q).waiting self.now.places }
-        ensures length { result ≡ length (queue self.now q) }
-    {
-        self.rings[q as usize].waiting.min(self.places)
+        Ok(self.rings[q as usize].waiting)
     }
 
     // The place of the k-th record of queue q, counted from its oldest.
     fn place(&self, q: u16, k: u16) -> usize
         requires queue { q < queues_of self.now }
-        requires within { k < self.now.places }
+        requires within { k < places_of self.now }
         ensures value { result ≡ place self.now.places q (ring_of self.now.rings q).first k }
         ensures bound { result < length (memory_of self.now) }
     {
@@ -122,16 +119,13 @@ impl<'a, T: Copy> Bank<'a, T> {
         q as usize * places + (self.rings[q as usize].first as usize + k as usize) % places
     }
 
-    // Adds the item as the newest record of queue q.
+    /// Adds the item as the newest record of queue q.
     pub fn put(&mut self, q: u16, item: T) -> Result<(), Refusal>
         ensures answer { result ≡ put_answer self.old q }
         ensures refused { is_ok result ≡ false → self.new ≡ self.old }
         ensures accepted { is_ok result ≡ true → Added self.old self.new q item }
     {
-        if q >= self.queues() {
-            return Err(Refusal::NoQueue);
-        }
-        if self.waiting(q) >= self.places() {
+        if self.count(q)? >= self.places {
             return Err(Refusal::Full);
         }
         self.append(q, item);
@@ -139,51 +133,44 @@ impl<'a, T: Copy> Bank<'a, T> {
     }
 
     // Writes the item to the place behind the newest record of queue q.
+    #[tactic(auto, using(crate::proofs::Banks::length_queue))]
     fn append(&mut self, q: u16, item: T)
         requires queue { q < queues_of self.old }
         requires room { length (queue self.old q) < places_of self.old }
         ensures { Added self.old self.new q item }
     {
-        let n = self.waiting(q);
+        let n = self.rings[q as usize].waiting;
         let at = self.place(q, n);
-        let first = self.rings[q as usize].first;
         self.memory[at] = item;
-        self.rings[q as usize] = Ring {
-            first,
-            waiting: n + 1,
-        };
+        self.rings[q as usize].waiting += 1;
     }
 
-    // Removes the oldest record of queue q and answers it.
+    /// Removes the oldest record of queue q and answers it.
     pub fn take(&mut self, q: u16) -> Result<T, Refusal>
         ensures answer { result ≡ take_answer self.old q }
         ensures refused { is_ok result ≡ false → self.new ≡ self.old }
         ensures accepted { is_ok result ≡ true → Removed self.old self.new q }
     {
-        if q >= self.queues() {
-            return Err(Refusal::NoQueue);
-        }
-        if self.waiting(q) == 0 {
+        if self.count(q)? == 0 {
             return Err(Refusal::Empty);
         }
         Ok(self.remove_oldest(q))
     }
 
     // Steps the ring of queue q over its oldest record.
+    #[tactic(auto, using(crate::proofs::Banks::length_queue, crate::proofs::Banks::queue_short))]
     fn remove_oldest(&mut self, q: u16) -> T
         requires queue { q < queues_of self.old }
         requires waiting { 0 < length (queue self.old q) }
-        ensures answer { Ok result ≡ oldest (queue self.old q) }
+        ensures answer { Some result ≡ slice_get (queue self.old q) 0 }
         ensures removed { Removed self.old self.new q }
     {
-        let n = self.waiting(q);
         let at = self.place(q, 0);
         let item = self.memory[at];
-        let next = (self.rings[q as usize].first as usize + 1) % self.places as usize;
-        self.rings[q as usize] = Ring {
-            first: next as u16,
-            waiting: n - 1,
-        };
+        let places = self.places as usize;
+        let ring = &mut self.rings[q as usize];
+        ring.first = ((ring.first as usize + 1) % places) as u16;
+        ring.waiting -= 1;
         item
     }
 }

@@ -1,29 +1,22 @@
 ghost use Rattle.std.specs.Prelude.{◌≡◌};
 ghost use Rattle.bank.specs.Answers.{number};
 
-// Why a bank refuses a call.
+/// Why a bank refuses a call: each with its number in the table of docs/RULES.md.
 #[derive(Clone, Copy, PartialEq, Eq, Debug)]
 pub enum Refusal {
-    Queues,
-    Places,
-    Memory,
-    NoQueue,
-    Full,
-    Empty,
+    Queues = 1,
+    Places = 2,
+    Memory = 3,
+    NoQueue = 4,
+    Full = 6,
+    Empty = 7,
 }
 
 impl Refusal {
-    // The refusal's number in the table of docs/RULES.md.
+    /// The refusal's number in the table.
     pub fn number(self) -> u8
         ensures { result ≡ number self }
     {
-        match self {
-            Refusal::Queues => 1,
-            Refusal::Places => 2,
-            Refusal::Memory => 3,
-            Refusal::NoQueue => 4,
-            Refusal::Full => 6,
-            Refusal::Empty => 7,
-        }
+        self as u8
     }
 }

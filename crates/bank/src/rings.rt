@@ -1,4 +1,4 @@
-// Where a queue's oldest record lies among the queue's places, and how many records wait from there on, round the end.
+/// Where a queue's oldest record lies among the queue's places, and how many records wait from there on, round the end.
 #[derive(Clone, Copy)]
 pub struct Ring {
     pub first: u16,
@@ -6,7 +6,7 @@ pub struct Ring {
 }
 
 impl Ring {
-    // Nothing waits.
+    /// Nothing waits.
     pub const EMPTY: Ring = Ring {
         first: 0,
         waiting: 0,

@@ -1,6 +1,7 @@
 -- What a call on the queue of a line makes of the lines.
 use Rattle.std.proofs.Common.{◌≡◌, ℕ, ◌-◌, ◌*◌, ◌<◌, ◌≤◌, true, false, cond, ◌&&◌, eqb, leb, List, [], ◌∷◌, length, is_ok, Ok, Err, Result, sym, refl, ap, ◌∙◌, subst, ⊎_elim, arith}
 use Rattle.std.proofs.lemmas.Bool.{and_parts, leb-true, lt-leb, cases_Bool, cond-false, cond-true}
+use Rattle.std.specs.Prelude.{ok_or, slice_get}
 use Rattle.bank.specs.Answers as bank
 use Rattle.bank.specs.Meaning.{queue, queues_of, places_of}
 use Rattle.bank.specs.declared.queues.Bank.{Bank}
@@ -54,7 +55,7 @@ pub answer_test : {X : Type 0} (r : Result X bank_refusal.Refusal) → is_ok (li
 answer_test (Ok x) = refl
 answer_test (Err e) = refl
 
-oldest_named : {K : Type 0} (l : List K) → oldest l ≡ line_answer_of (bank.oldest l)
+oldest_named : {K : Type 0} (l : List K) → oldest l ≡ line_answer_of (ok_or (slice_get l 0) queues.Empty)
 oldest_named [] = refl
 oldest_named (x ∷ xs) = refl
 

@@ -3,7 +3,7 @@ use Rattle.std.specs.Prelude.{◌≡◌, ℕ, ◌≤◌, false, [], length}
 use Rattle.std.proofs.Common.{arith}
 use Rattle.std.proofs.lemmas.Bool.{cond-false, cond_both}
 use Rattle.bank.specs.Meaning.{queue, places_of}
-use Rattle.bank.proofs.Room.{queue_short}
+use Rattle.bank.proofs.Banks.{queue_short}
 use Rattle.exchange.specs.Lines.{joins}
 use Rattle.ring_lines.specs.Meaning.{queue_of, bays_of, ring_lines}
 use Rattle.ring_lines.specs.declared.lines.RingLines.{RingLines}

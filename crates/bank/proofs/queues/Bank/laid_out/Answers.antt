@@ -1,12 +1,9 @@
-use Rattle.std.proofs.Common.{refl}
 use Rattle.bank.proofs.Lists.{list_none, rings_new}
+use Rattle.std.proofs.Common.{arith}
 use Rattle.bank.proofs.queues.Bank.laid_out.Goals as goal
 
-pub returns : goal.returns
-returns g c = record {
-  queues = refl;
-  places = refl;
-  lender = refl;
-  memory = refl;
-  empty = λ q. list_none _ _ _ _ q (rings_new 132 q);
-}
+pub invariant_of-result-clause-short : goal.invariant_of-result-clause-short
+invariant_of-result-clause-short g c q = let e = rings_new 132 q in omega arith
+
+pub returns-clause-empty : goal.returns-clause-empty
+returns-clause-empty g c q = list_none _ _ _ _ q (rings_new 132 q)

@@ -17,8 +17,8 @@ returns g c =
       refused = λ f. ap (λ y. record { bank = y; bays = x.bays }) (c.put.ensures.refused (sym test ∙ f));
       after = λ t.
           let e = c.put.ensures.accepted (sym test ∙ t) in
-          lines_ext _ _ (bays_kept x b e.queues) e.places
-          (changed x b c.args.from c.args.to q (λ l. l ++ c.args.message ∷ []) at e.queues e.lists);
+          lines_ext _ _ (bays_kept x b e.changes.queues) e.changes.places
+          (changed x b c.args.from c.args.to q (λ l. l ++ c.args.message ∷ []) at e.changes.queues e.changes.lists);
       bank = λ t.
           let P : ℕ → Type 0 = λ k. Added x.bank b k c.args.message in
           subst P c.queue-q.ensures (c.put.ensures.accepted (sym test ∙ t));

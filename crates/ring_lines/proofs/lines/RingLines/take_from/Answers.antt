@@ -17,8 +17,8 @@ returns g c =
       refused = λ f. ap (λ y. record { bank = y; bays = x.bays }) (c.take.ensures.refused (sym test ∙ f));
       after = λ t.
           let e = c.take.ensures.accepted (sym test ∙ t) in
-          lines_ext _ _ (bays_kept x b e.queues) e.places
-          (changed x b c.args.from c.args.to q (drop 1) at e.queues e.lists);
+          lines_ext _ _ (bays_kept x b e.changes.queues) e.changes.places
+          (changed x b c.args.from c.args.to q (drop 1) at e.changes.queues e.changes.lists);
       bank = λ t.
           let P : ℕ → Type 0 = λ k. Removed x.bank b k in subst P c.queue-q.ensures (c.take.ensures.accepted (sym test ∙ t));
     }
