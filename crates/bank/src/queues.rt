@@ -15,6 +15,7 @@ pub const MOST_PLACES: u16 = 1024;
 /// its records lie in them as in a ring.
 #[derive(Drop)]
 pub struct Bank<'a, T: Copy> {
+    // lent memory and a table of fixed size, since a charger has no heap
     memory: &'a mut [T],
     queues: u16,
     places: u16,
@@ -34,6 +35,8 @@ impl<'a, T: Copy> Bank<'a, T> {
     ghost use Rattle.bank.specs.Meaning.{lender_of, memory_of, queues_of, places_of, queue};
     ghost use Rattle.bank.specs.Answers.{check_answer, put_answer, take_answer, count_answer};
     ghost use Rattle.bank.specs.Changes.{Added, Removed};
+
+    // `check` and `make` take two numbers and no struct of them: nothing else takes both, and ring lines have others.
 
     /// Whether so many queues of so many places can be made in the memory.
     pub fn check(memory: &[T], queues: u16, places: u16) -> Result<(), Refusal>
@@ -59,22 +62,10 @@ impl<'a, T: Copy> Bank<'a, T> {
         ensures memory { memory_of result ≡ memory.old }
         ensures empty { (q : ℕ) → queue result q ≡ [] }
     {
-        match Bank::check(memory, queues, places) {
-            Ok(()) => Bank::laid_out(memory, queues, places),
-            Err(_) => Bank::laid_out(memory, 0, 0),
-        }
-    }
-
-    // A bank of these numbers with nothing waiting.
-    fn laid_out(memory: &'a mut [T], queues: u16, places: u16) -> Self
-        requires few { queues ≤ MOST_QUEUES }
-        requires room { queues * places ≤ length memory.old }
-        ensures queues { queues_of result ≡ queues }
-        ensures places { places_of result ≡ places }
-        ensures lender { lender_of result ≡ memory.entry.ghost_name }
-        ensures memory { memory_of result ≡ memory.old }
-        ensures empty { (q : ℕ) → queue result q ≡ [] }
-    {
+        let (queues, places) = match Bank::check(memory, queues, places) {
+            Ok(()) => (queues, places),
+            Err(_) => (0, 0),
+        };
         Bank {
             memory,
             queues,

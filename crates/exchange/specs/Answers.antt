@@ -1,6 +1,9 @@
 -- What the calls of an exchange answer. The conditions of a call are tried in the order written; the first that holds gives the refusal.
-use Rattle.std.specs.Prelude.{ℕ, ◌-◌, ◌*◌, cond, ◌||◌, List, [], ◌∷◌, length, Ok, Err, Result, ◌==◌, nat_le, nat_lt}
+use Rattle.std.specs.Prelude.{ℕ, ◌-◌, ◌*◌, cond, ◌||◌, length, slice_get, ok_or, Ok, Err, Result, ◌==◌, nat_le, nat_lt}
+use Rattle.bank.specs.declared.refusals.Refusal as bank
+use Rattle.bank.specs.declared.refusals.Refusal.TheVariants as queues
 use Rattle.exchange.specs.Lines.{Lines}
+use Rattle.exchange.specs.declared.lines.Line.{Line}
 use Rattle.exchange.specs.declared.refusals.Refusal.{Refusal}
 use Rattle.exchange.specs.declared.refusals.Refusal.TheVariants.{Bays, Places, Memory, NoBay, SameBay, Full, Empty}
 
@@ -14,6 +17,15 @@ number SameBay = 5
 number Full = 6
 number Empty = 7
 
+-- what the refusal of a bank is called where its queues are lines
+abbrev pub line_refusal : bank.Refusal → Refusal
+line_refusal queues.Queues = Bays
+line_refusal queues.Places = Places
+line_refusal queues.Memory = Memory
+line_refusal queues.NoQueue = NoBay
+line_refusal queues.Full = Full
+line_refusal queues.Empty = Empty
+
 -- what the check before a making of lines answers, of a memory of `len` records
 abbrev pub check_answer : ℕ → ℕ → ℕ → Result (Unit {0}) Refusal
 check_answer len bays places =
@@ -22,27 +34,22 @@ check_answer len bays places =
     (cond (nat_lt len (bays * (bays - 1) * places)) (Err Memory)
     (Ok tt)))
 
--- the oldest of a list, or the refusal where it is empty
-abbrev pub oldest : {X : Type 0} → List X → Result X Refusal
-oldest [] = Err Empty
-oldest (x ∷ xs) = Ok x
-
 module _ {K : Type 0} where
-  -- the answer r of a call on the line from i to j, unless there is no such line
-  abbrev pub on_line : {X : Type 0} → Lines K → ℕ → ℕ → Result X Refusal → Result X Refusal
-  on_line l i j r =
-      cond (nat_le l.bays i || nat_le l.bays j) (Err NoBay)
-      (cond (i == j) (Err SameBay)
+  -- the answer r of a call on a line, unless there is no such line
+  abbrev pub on_line : {X : Type 0} → Lines K → Line → Result X Refusal → Result X Refusal
+  on_line l line r =
+      cond (nat_le l.bays line.from || nat_le l.bays line.to) (Err NoBay)
+      (cond (line.from == line.to) (Err SameBay)
       r)
 
-  -- what a put on the line from i to j answers
-  abbrev pub put_answer : Lines K → ℕ → ℕ → Result (Unit {0}) Refusal
-  put_answer l i j = on_line l i j (cond (nat_le l.places (length (l.at i j))) (Err Full) (Ok tt))
+  -- what a put on a line answers
+  abbrev pub put_answer : Lines K → Line → Result (Unit {0}) Refusal
+  put_answer l line = on_line l line (cond (nat_le l.places (length (l.at line))) (Err Full) (Ok tt))
 
-  -- what a take from it answers
-  abbrev pub take_answer : Lines K → ℕ → ℕ → Result K Refusal
-  take_answer l i j = on_line l i j (oldest (l.at i j))
+  -- what a take from it answers: the oldest, if there is one
+  abbrev pub take_answer : Lines K → Line → Result K Refusal
+  take_answer l line = on_line l line (ok_or (slice_get (l.at line) 0) Empty)
 
   -- what a count of it answers
-  abbrev pub count_answer : Lines K → ℕ → ℕ → Result ℕ Refusal
-  count_answer l i j = on_line l i j (Ok (length (l.at i j)))
+  abbrev pub count_answer : Lines K → Line → Result ℕ Refusal
+  count_answer l line = on_line l line (Ok (length (l.at line)))

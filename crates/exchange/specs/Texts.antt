@@ -1,10 +1,15 @@
 -- How messages and refusals are written for a person to read.
 use Rattle.std.specs.Prelude.{ℕ, List, ◌++◌, codes, decimal}
 use Rattle.exchange.specs.Answers.{number}
+use Rattle.exchange.specs.declared.lines.Line.{Line}
 use Rattle.exchange.specs.declared.messages.Message.{Message}
 use Rattle.exchange.specs.declared.messages.Message.TheVariants.{Request, Answer, Probe, Notice}
 use Rattle.exchange.specs.declared.refusals.Refusal.{Refusal}
 use Rattle.exchange.specs.declared.refusals.Refusal.TheVariants.{Bays, Places, Memory, NoBay, SameBay, Full, Empty}
+
+-- a line
+abbrev pub line_text : Line → List ℕ
+line_text line = decimal line.from ++ (codes "->" ++ decimal line.to)
 
 -- a message
 abbrev pub message_text : Message → List ℕ

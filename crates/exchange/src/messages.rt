@@ -3,16 +3,16 @@ ghost use Rattle.exchange.specs.Texts.{message_text};
 
 use std::fmt;
 
-// What one bay sends another.
+/// What one bay sends another.
 #[derive(Clone, Copy, PartialEq, Eq, Debug)]
 pub enum Message {
-    // the sender asks for the receiver's power stack
+    /// the sender asks for the receiver's power stack
     Request,
-    // the sender has let go of what the receiver asked for
+    /// the sender has let go of what the receiver asked for
     Answer,
-    // the search of that number, begun by that bay, has come along a wait
+    /// the search of that number, begun by that bay, has come along a wait
     Probe { bay: u8, search: u16 },
-    // the wait of the one bay for the other stands on a ring, or leads to one
+    /// the wait of the one bay for the other stands on a ring, or leads to one
     Notice { waiter: u8, awaited: u8 },
 }
 

@@ -1,39 +1,32 @@
 ghost use Rattle.std.specs.Prelude.{◌≡◌, Some};
-ghost use Rattle.exchange.specs.Answers.{number};
+ghost use Rattle.bank.specs.Answers.{number as bank_number};
+ghost use Rattle.exchange.specs.Answers.{number, line_refusal};
 ghost use Rattle.exchange.specs.Texts.{reason, refusal_text};
 
 use std::error::Error;
 use std::fmt;
 
-// Why an exchange refuses a call.
+/// Why an exchange refuses a call: each with its number in the table of docs/RULES.md.
 #[derive(Clone, Copy, PartialEq, Eq, Debug)]
 pub enum Refusal {
-    Bays,
-    Places,
-    Memory,
-    NoBay,
-    SameBay,
-    Full,
-    Empty,
+    Bays = 1,
+    Places = 2,
+    Memory = 3,
+    NoBay = 4,
+    SameBay = 5,
+    Full = 6,
+    Empty = 7,
 }
 
 impl Refusal {
-    // The refusal's number in the table of docs/RULES.md.
+    /// The refusal's number in the table.
     pub fn number(self) -> u8
         ensures { result ≡ number self }
     {
-        match self {
-            Refusal::Bays => 1,
-            Refusal::Places => 2,
-            Refusal::Memory => 3,
-            Refusal::NoBay => 4,
-            Refusal::SameBay => 5,
-            Refusal::Full => 6,
-            Refusal::Empty => 7,
-        }
+        self as u8
     }
 
-    // Why, in words.
+    /// Why, in words.
     pub fn reason(self) -> &'static str
         ensures { result.now ≡ reason self }
     {
@@ -49,13 +42,30 @@ impl Refusal {
     }
 }
 
+// What the refusal of a bank is called where its queues are lines. Its number stays.
+impl From<bank::Refusal> for Refusal {
+    ghost from_gives = { λ b r. r ≡ line_refusal b };
+
+    fn from(refusal: bank::Refusal) -> Refusal
+        ensures named { result ≡ line_refusal refusal }
+        ensures numbered { number result ≡ bank_number refusal }
+    {
+        match refusal {
+            bank::Refusal::Queues => Refusal::Bays,
+            bank::Refusal::Places => Refusal::Places,
+            bank::Refusal::Memory => Refusal::Memory,
+            bank::Refusal::NoQueue => Refusal::NoBay,
+            bank::Refusal::Full => Refusal::Full,
+            bank::Refusal::Empty => Refusal::Empty,
+        }
+    }
+}
+
 impl fmt::Display for Refusal {
     ghost output = { λ e. Some (refusal_text e) };
 
     fn fmt<W: fmt::Write>(&self, f: &mut fmt::Formatter<W>) -> fmt::Result {
-        let number = self.number();
-        let reason = self.reason();
-        write!(f, "{number}, {reason}")
+        write!(f, "{}, {}", self.number(), self.reason())
     }
 }
 

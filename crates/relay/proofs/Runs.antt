@@ -3,8 +3,7 @@ use Rattle.std.proofs.Common.{◌≡◌, ℕ, ◌+◌, ◌<◌, ◌≤◌, List,
 use Rattle.std.proofs.lemmas.List.{append-nil, at_drop_more, at_drop_all, take_all, take_more_set, drop-set-lt}
 use Rattle.exchange.specs.Lines.{Lines}
 use Rattle.exchange.specs.declared.messages.Message.{Message}
-use Rattle.relay.specs.Runs.{outcome_of, lines_after, log_of, lines_after_all}
-use Rattle.relay.specs.declared.outcomes.Outcome.{Outcome}
+use Rattle.relay.specs.Runs.{made_on, lines_after, log_of, lines_after_all}
 use Rattle.relay.specs.declared.entries.Entry.{Entry}
 
 -- l₀ and es₀ are the lines and the log before the first step, l and es those after k steps
@@ -15,11 +14,9 @@ pub record Underway (l₀ l : Lines Message) (es₀ es : List Entry) (k : ℕ) :
 pub underway_none : (l : Lines Message) (es : List Entry) → Underway l l es es 0
 underway_none l es = record { log = refl; lines = refl }
 
--- one step more: the entry at k, with its outcome, and the lines after it
-pub underway_more : (l₀ l l' : Lines Message) (es₀ es : List Entry) (k : ℕ) (d : Entry) (o : Outcome) → Underway l₀ l es₀ es k → k < length es → o ≡ outcome_of l (get_or es k d).step → l' ≡ lines_after l (get_or es k d).step → Underway l₀ l' es₀ (set es k (record { step = (get_or es k d).step; outcome = o })) (k + 1)
-underway_more l₀ l l' es₀ es k d o u h eo el =
-    let s = (get_or es k d).step in
-    let x : Entry = record { step = s; outcome = o } in
+-- one step more: the entry at k, once made, and the lines after it
+pub underway_more : (l₀ l l' : Lines Message) (es₀ es : List Entry) (k : ℕ) (d x : Entry) → Underway l₀ l es₀ es k → k < length es → x ≡ made_on l (get_or es k d) → l' ≡ lines_after l (get_or es k d).step → Underway l₀ l' es₀ (set es k x) (k + 1)
+underway_more l₀ l l' es₀ es k d x u h ex el =
     let left = drop (k + 1) es in
     let same : drop (k + 1) (set es k x) ≡ left = drop-set-lt (k + 1) es k x (omega arith) in
     record {
@@ -27,8 +24,8 @@ underway_more l₀ l l' es₀ es k d o u h eo el =
           ap (λ xs. xs ++ log_of l' (drop (k + 1) (set es k x))) (take_more_set es k x h)
           ∙ ap (λ xs. (take k es ++ x ∷ []) ++ log_of l' xs) same
           ∙ append_assoc (take k es) (x ∷ []) (log_of l' left)
-          ∙ ap (λ y. take k es ++ ((record { step = s; outcome = y }) ∷ log_of l' left)) eo
-          ∙ ap (λ y. take k es ++ ((record { step = s; outcome = outcome_of l s }) ∷ log_of y left)) el
+          ∙ ap (λ y. take k es ++ (y ∷ log_of l' left)) ex
+          ∙ ap (λ y. take k es ++ (made_on l (get_or es k d) ∷ log_of y left)) el
           ∙ ap (λ xs. take k es ++ xs) (sym (at_drop_more (log_of l) es k d h))
           ∙ u.log;
       lines = ap (lines_after_all l') same ∙ ap (λ y. lines_after_all y left) el ∙ sym (at_drop_more (lines_after_all l) es k d h) ∙ u.lines;

@@ -1,33 +1,49 @@
 ghost use Rattle.std.specs.Prelude.{◌≡◌, map, IfOk, Some};
-ghost use Rattle.relay.specs.Runs.{pending};
+ghost use Rattle.exchange.specs.declared.refusals.Refusal.{Refusal};
+ghost use Rattle.relay.specs.declared.outcomes.Outcome.TheVariants.{Refused};
+ghost use Rattle.relay.specs.Runs.{pending, made_on, lines_after};
 ghost use Rattle.relay.specs.Texts.{entry_text};
 
 use crate::outcomes::Outcome;
 use crate::steps::Step;
+use exchange::{Exchange, Message};
 use std::alloc::{AllocError, Global};
 use std::fmt;
 
-// An entry of the relay's log: a step, and what became of it.
-#[derive(Clone, Copy)]
+/// An entry of the relay's log: a step, and what became of it once it has been made.
+#[derive(Clone, Copy, PartialEq, Eq, Debug)]
 pub struct Entry {
     pub step: Step,
-    pub outcome: Outcome,
+    pub outcome: Option<Outcome>,
 }
 
 impl Entry {
-    // A log of steps that have not been made.
+    /// A log of steps that have not been made.
     pub fn log(heap: Global, steps: &[Step]) -> Result<Vec<Entry>, AllocError>
         ensures { IfOk result (λ v. v.items ≡ map pending steps.now) }
     {
-        let mut log = Vec::new(heap);
-        for step in steps {
-            let outcome = Outcome::Pending;
-            log.push(Entry {
-                step: *step,
-                outcome,
-            })?;
+        steps.iter().copied().map(Entry::from).collect(heap)
+    }
+
+    /// Makes the step, and notes what became of it.
+    pub fn make<E: Exchange<Message = Message>>(&mut self, exchange: &mut E)
+        ensures entry { self.new ≡ made_on (E.Exchange.lines exchange.old) self.old }
+        ensures lines { E.Exchange.lines exchange.new ≡ lines_after (E.Exchange.lines exchange.old) self.old.step }
+        ensures refused { (e : Refusal) → self.new.outcome ≡ Some (Refused e) → exchange.new ≡ exchange.old }
+    {
+        self.outcome = Some(self.step.make(exchange));
+    }
+}
+
+/// The entry of a step that has not been made.
+impl From<Step> for Entry {
+    ghost from_gives = { λ step entry. entry ≡ pending step };
+
+    fn from(step: Step) -> Entry {
+        Entry {
+            step,
+            outcome: None,
         }
-        Ok(log)
     }
 }
 
@@ -35,8 +51,9 @@ impl fmt::Display for Entry {
     ghost output = { λ e. Some (entry_text e) };
 
     fn fmt<W: fmt::Write>(&self, f: &mut fmt::Formatter<W>) -> fmt::Result {
-        let step = self.step;
-        let outcome = self.outcome;
-        write!(f, "{step}: {outcome}")
+        match self.outcome {
+            Some(outcome) => write!(f, "{}: {outcome}", self.step),
+            None => write!(f, "{}: not made", self.step),
+        }
     }
 }

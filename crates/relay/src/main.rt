@@ -1,4 +1,4 @@
-// Carries a fixed list of messages over the lines of a small depot, and prints what became of each.
+//! Carries a fixed list of messages over the lines of a small depot, and prints what became of each.
 #![tactic(auto)]
 
 mod carrying;
@@ -28,14 +28,15 @@ fn run(rt: &HostRuntime) -> anyhow::Result<()> {
     let mut memory = [Message::Request; RECORDS];
     RingLines::check(&memory, BAYS, PLACES)?;
     let mut lines = RingLines::make(&mut memory, BAYS, PLACES);
-    let bays = lines.bays();
-    let places = lines.places();
-    println!(rt; "ring lines for {bays} bays, {places} places in a line")?;
+    println!(rt;
+        "ring lines for {} bays, {} places in a line",
+        lines.bays(),
+        lines.places()
+    )?;
     let mut log = Entry::log(rt.alloc(), &STEPS)?;
     carry(&mut lines, &mut log);
     for (i, entry) in log.iter().enumerate() {
-        let number = i.saturating_add(1);
-        println!(rt; "{number} {entry}")?;
+        println!(rt; "{} {entry}", i + 1)?;
     }
     Ok(())
 }

@@ -1,16 +1,32 @@
-ghost use Rattle.std.specs.Prelude.{Some};
+ghost use Rattle.std.specs.Prelude.{◌≡◌, Some};
+ghost use Rattle.exchange.specs.declared.refusals.Refusal.{Refusal};
 ghost use Rattle.relay.specs.Texts.{step_text};
+ghost use Rattle.relay.specs.declared.outcomes.Outcome.TheVariants.{Refused};
+ghost use Rattle.relay.specs.Runs.{outcome_of, lines_after};
 
-use exchange::Message;
+use crate::outcomes::Outcome;
+use exchange::{Exchange, Line, Message};
 use std::fmt;
 
-// One call on an exchange.
-#[derive(Clone, Copy)]
+/// One call on an exchange. Steps are data, since a log keeps, compares and prints them; a closure could only be called.
+#[derive(Clone, Copy, PartialEq, Eq, Debug)]
 pub enum Step {
-    // from a bay, to a bay, the message
-    Put(u16, u16, Message),
-    // from a bay, to a bay
-    Take(u16, u16),
+    Put(Line, Message),
+    Take(Line),
+}
+
+impl Step {
+    /// Makes the step, and answers what became of it.
+    pub fn make<E: Exchange<Message = Message>>(self, exchange: &mut E) -> Outcome
+        ensures outcome { result ≡ outcome_of (E.Exchange.lines exchange.old) self }
+        ensures lines { E.Exchange.lines exchange.new ≡ lines_after (E.Exchange.lines exchange.old) self }
+        ensures refused { (e : Refusal) → result ≡ Refused e → exchange.new ≡ exchange.old }
+    {
+        match self {
+            Step::Put(line, message) => exchange.put(line, message).into(),
+            Step::Take(line) => exchange.take(line).into(),
+        }
+    }
 }
 
 impl fmt::Display for Step {
@@ -18,8 +34,8 @@ impl fmt::Display for Step {
 
     fn fmt<W: fmt::Write>(&self, f: &mut fmt::Formatter<W>) -> fmt::Result {
         match *self {
-            Step::Put(from, to, message) => write!(f, "put {from}->{to} {message}"),
-            Step::Take(from, to) => write!(f, "take {from}->{to}"),
+            Step::Put(line, message) => write!(f, "put {line} {message}"),
+            Step::Take(line) => write!(f, "take {line}"),
         }
     }
 }

@@ -1,85 +1,87 @@
 -- What a call on the queue of a line makes of the lines.
-use Rattle.std.proofs.Common.{◌≡◌, ℕ, ◌-◌, ◌*◌, ◌<◌, ◌≤◌, true, false, cond, ◌&&◌, eqb, leb, List, [], ◌∷◌, length, is_ok, Ok, Err, Result, sym, refl, ap, ◌∙◌, subst, ⊎_elim, arith}
-use Rattle.std.proofs.lemmas.Bool.{and_parts, leb-true, lt-leb, cases_Bool, cond-false, cond-true}
+use Rattle.std.proofs.Common.{◌≡◌, ℕ, ◌-◌, ◌*◌, ◌≤◌, true, false, cond, eqb, leb, List, [], ◌∷◌, length, Ok, Err, Result, sym, refl, ap, ◌∙◌, subst, arith}
+use Rattle.std.proofs.lemmas.Bool.{lt-leb, cond-true}
+use Rattle.std.proofs.lemmas.Result.{err_from_is_err_and}
+use Rattle.std.proofs.Math.Bridge.{le_prop}
+use Rattle.std.proofs.Math.Nat.{ℕ_set}
 use Rattle.std.specs.Prelude.{ok_or, slice_get}
+use Rattle.std.specs.Result.{result_map_both, IsErrAnd}
 use Rattle.bank.specs.Answers as bank
 use Rattle.bank.specs.Meaning.{queue, queues_of, places_of}
 use Rattle.bank.specs.declared.queues.Bank.{Bank}
 use Rattle.bank.specs.declared.refusals.Refusal as bank_refusal
 use Rattle.bank.specs.declared.refusals.Refusal.TheVariants as queues
-use Rattle.exchange.specs.Lines.{same_pair, two_bays, joins}
-use Rattle.exchange.specs.Answers.{put_answer, take_answer, count_answer, oldest}
-use Rattle.exchange.specs.declared.refusals.Refusal.TheVariants.{Full}
-use Rattle.exchange.proofs.OnLine.{joins_answers}
-use Rattle.ring_lines.specs.Meaning.{queue_of, bays_of, ring_lines, line_answer_of}
+use Rattle.exchange.specs.Lines.{with_line, two_bays}
+use Rattle.exchange.specs.Answers.{on_line, put_answer, take_answer, count_answer, line_refusal}
+use Rattle.exchange.specs.declared.lines.Line.{Line}
+use Rattle.exchange.specs.declared.refusals.Refusal.{Refusal}
+use Rattle.exchange.specs.declared.refusals.Refusal.TheVariants.{Full, Empty}
+use Rattle.exchange.proofs.OnLine.{joins_answers, answered, lines_ext}
+use Rattle.ring_lines.specs.Meaning.{queue_of, ring_lines}
 use Rattle.ring_lines.specs.declared.lines.RingLines.{RingLines}
 use Rattle.ring_lines.proofs.Pairs.{pair, queue_below, one_line}
 
--- q is the queue of the line from i to j
-pub record Found {K : Type 0} (x : RingLines K) (i j q : ℕ) : Type 0 where
-  pub leads : joins (ring_lines x) i j ≡ true
-  pub place : queue_of (bays_of x) i j ≡ q
-  pub inside : q < queues_of x.bank
-  pub here : (ring_lines x).at i j ≡ queue x.bank q
+-- the bank's answer, with its refusal under the name that it has on a line
+abbrev pub line_answer : {X : Type 0} → Result X bank_refusal.Refusal → Result X Refusal
+line_answer r = result_map_both (λ x. x) line_refusal r
 
-room : {K : Type 0} (x : RingLines K) (i : ℕ) → i < bays_of x → bays_of x * (bays_of x - 1) ≤ queues_of x.bank
-room x i h =
-    let t = leb x.bays 12 && leb (x.bays * (x.bays - 1)) (queues_of x.bank) in
-    ⊎_elim
-    (λ e. let n = cond-true t x.bays 0 e in rw n (leb-true _ _ (and_parts (leb x.bays 12) (leb (x.bays * (x.bays - 1)) (queues_of x.bank)) e).1))
-    (λ e. let n = cond-false t x.bays 0 e in let l : i < 0 = rw n at h in let z : ⊥ = omega arith in absurd z)
-    (cases_Bool t)
-
-pub found : {K : Type 0} (x : RingLines K) (i j q : ℕ) → joins (ring_lines x) i j ≡ true → q ≡ queue_of (bays_of x) i j → Found x i j q
-found x i j q leads is =
-    let p = pair (bays_of x) i j leads in
-    record {
-      leads = leads;
-      place = sym is;
-      inside = omega (arith, is, queue_below (bays_of x) i j p, room x i p.from);
-      here = cond-true (joins (ring_lines x) i j) (queue x.bank (queue_of (bays_of x) i j)) [] leads ∙ ap (queue x.bank) (sym is);
-    }
-
--- ---- the lines after a call that kept the number of queues
-pub bays_kept : {K : Type 0} (x : RingLines K) (b : Bank K) → queues_of b ≡ queues_of x.bank → bays_of (record { bank = b; bays = x.bays }) ≡ bays_of x
-bays_kept x b e = ap (λ n. cond (leb x.bays 12 && leb (x.bays * (x.bays - 1)) n) x.bays 0) e
-
-pub changed : {K : Type 0} (x : RingLines K) (b : Bank K) (i j q : ℕ) (f : List K → List K) → Found x i j q → queues_of b ≡ queues_of x.bank → ((k : ℕ) → queue b k ≡ cond (eqb k q) (f (queue x.bank q)) (queue x.bank k)) → (u v : ℕ) → (ring_lines (record { bank = b; bays = x.bays })).at u v ≡ cond (same_pair u v i j) (f ((ring_lines x).at i j)) ((ring_lines x).at u v)
-changed x b i j q f at e h u v =
-    ap (λ n. cond (two_bays n u v) (queue b (queue_of n u v)) []) (bays_kept x b e)
-    ∙ one_line (bays_of x) (queue x.bank) (queue b) i j f at.leads
-    (λ k. let P : ℕ → Type 0 = λ w. queue b k ≡ cond (eqb k w) (f (queue x.bank w)) (queue x.bank k) in subst P (sym at.place) (h k)) u v
-
--- ---- the answers: those of the bank, with its refusals under their names on a line
-pub answer_test : {X : Type 0} (r : Result X bank_refusal.Refusal) → is_ok (line_answer_of r) ≡ is_ok r
-answer_test (Ok x) = refl
-answer_test (Err e) = refl
-
-oldest_named : {K : Type 0} (l : List K) → oldest l ≡ line_answer_of (ok_or (slice_get l 0) queues.Empty)
+oldest_named : {K : Type 0} (l : List K) → ok_or (slice_get l 0) Empty ≡ line_answer (ok_or (slice_get l 0) queues.Empty)
 oldest_named [] = refl
 oldest_named (x ∷ xs) = refl
 
-module _ {K : Type 0} (x : RingLines K) (i j q : ℕ) (at : Found x i j q) where
-  inside : leb (queues_of x.bank) q ≡ false
-  inside = lt-leb (queues_of x.bank) q at.inside
+-- what `?` makes of an answer of the bank that is a refusal
+pub refused : {X : Type 0} (result answer : Result X Refusal) (made : Result X bank_refusal.Refusal) (e : bank_refusal.Refusal) → IsErrAnd result (λ r. r ≡ line_refusal e) → answer ≡ line_answer made → made ≡ Err e → result ≡ answer
+refused result answer made e h is was =
+    let p = err_from_is_err_and result h in rw (p.1, p.2) (sym (is ∙ ap line_answer was))
 
-  pub put_is : put_answer (ring_lines x) i j ≡ line_answer_of (bank.put_answer x.bank q)
+-- ring lines are known by their bank and their number of bays
+pub unmoved : {K : Type 0} (x : RingLines K) (b : Bank K) → b ≡ x.bank → (few : x.bays ≤ 12) (pairs : queues_of b ≡ x.bays * (x.bays - 1)) → record { bank = b; bays = x.bays; few = few; pairs = pairs } ≡ x
+unmoved {K} x b e =
+    let P : Bank K → Type 0 = λ y. (few : x.bays ≤ 12) (pairs : queues_of y ≡ x.bays * (x.bays - 1)) → record { bank = y; bays = x.bays; few = few; pairs = pairs } ≡ x in
+    subst P (sym e) (λ h p i. record { bank = x.bank; bays = x.bays; few = le_prop h x.few i; pairs = ℕ_set _ _ p x.pairs i })
+
+-- ---- the queue q was found for a line
+module _ {K : Type 0} (x : RingLines K) (line : Line) (q : ℕ) (found : on_line (ring_lines x) line (Ok (queue_of x.bays line)) ≡ Ok q) where
+  leads : two_bays x.bays line ≡ true
+  leads = (answered (ring_lines x) line (Ok (queue_of x.bays line)) q found).joins
+
+  place : queue_of x.bays line ≡ q
+  place = let e = (answered (ring_lines x) line (Ok (queue_of x.bays line)) q found).is in cc
+
+  inside : leb (queues_of x.bank) q ≡ false
+  inside =
+      let below = queue_below x.bays line (pair x.bays line leads) in
+      let e = place in
+      let all = x.pairs in
+      lt-leb (queues_of x.bank) q (omega arith)
+
+  here : (ring_lines x).at line ≡ queue x.bank q
+  here = cond-true (two_bays x.bays line) (queue x.bank (queue_of x.bays line)) [] leads ∙ ap (queue x.bank) place
+
+  pub put_is : put_answer (ring_lines x) line ≡ line_answer (bank.put_answer x.bank q)
   put_is =
-      joins_answers (ring_lines x) i j (cond (leb (places_of x.bank) (length ((ring_lines x).at i j))) (Err Full) (Ok tt)) at.leads
-      ∙ ap (λ l. cond (leb (places_of x.bank) (length l)) (Err Full) (Ok tt)) at.here
+      joins_answers (ring_lines x) line (cond (leb (places_of x.bank) (length ((ring_lines x).at line))) (Err Full) (Ok tt)) leads
+      ∙ ap (λ l. cond (leb (places_of x.bank) (length l)) (Err Full) (Ok tt)) here
       ∙ rw inside
       (elim (leb (places_of x.bank) (length (queue x.bank q))) as
-      (λ t. cond t (Err Full) (Ok (tt {0})) ≡ line_answer_of (cond t (Err queues.Full) (Ok (tt {0}))))
+      (λ t. cond t (Err Full) (Ok (tt {0})) ≡ line_answer (cond t (Err queues.Full) (Ok (tt {0}))))
       [ true ↦ refl | false ↦ refl ])
 
-  pub take_is : take_answer (ring_lines x) i j ≡ line_answer_of (bank.take_answer x.bank q)
+  pub take_is : take_answer (ring_lines x) line ≡ line_answer (bank.take_answer x.bank q)
   take_is =
-      joins_answers (ring_lines x) i j (oldest ((ring_lines x).at i j)) at.leads
-      ∙ ap oldest at.here
+      joins_answers (ring_lines x) line (ok_or (slice_get ((ring_lines x).at line) 0) Empty) leads
+      ∙ ap (λ l. ok_or (slice_get l 0) Empty) here
       ∙ rw inside (oldest_named (queue x.bank q))
 
-  pub count_is : count_answer (ring_lines x) i j ≡ line_answer_of (bank.count_answer x.bank q)
+  pub count_is : count_answer (ring_lines x) line ≡ line_answer (bank.count_answer x.bank q)
   count_is =
-      joins_answers (ring_lines x) i j (Ok (length ((ring_lines x).at i j))) at.leads
-      ∙ ap (λ l. Ok (length l)) at.here
+      joins_answers (ring_lines x) line (Ok (length ((ring_lines x).at line))) leads
+      ∙ ap (λ l. Ok (length l)) here
       ∙ rw inside
+
+  -- the lines after a call that changed one queue of the bank
+  pub changed : (b : Bank K) (f : List K → List K) → places_of b ≡ places_of x.bank → ((k : ℕ) → queue b k ≡ cond (eqb k q) (f (queue x.bank q)) (queue x.bank k)) → record { bays = x.bays; places = places_of b; at = λ a. cond (two_bays x.bays a) (queue b (queue_of x.bays a)) [] } ≡ with_line (ring_lines x) line (f ((ring_lines x).at line))
+  changed b f places lists =
+      lines_ext _ _ refl places
+      (one_line x.bays (queue x.bank) (queue b) line f leads
+      (λ k. let P : ℕ → Type 0 = λ w. queue b k ≡ cond (eqb k w) (f (queue x.bank w)) (queue x.bank k) in subst P (sym place) (lists k)))

@@ -1,4 +1,4 @@
-// Ring lines: an exchange that has for each line a ring of places of its own.
+//! Ring lines: an exchange that has for each line a ring of places of its own.
 #![tactic(auto)]
 
 mod lines;

@@ -1,5 +1,5 @@
 use crate::lines::RingLines;
-use exchange::{Exchange, Message, Refusal};
+use exchange::{Exchange, Line, Message, Refusal};
 use std::process::Abort;
 use std::test::Fail;
 
@@ -16,16 +16,16 @@ fn first_in_first_out_round_the_ring(rt: HostRuntime) {
         awaited: 255,
     };
     for message in [Message::Request, probe, Message::Answer] {
-        assert_eq!(rt; lines.put(2, 0, message), Ok(()));
+        assert_eq!(rt; lines.put(Line { from: 2, to: 0 }, message), Ok(()));
     }
-    assert_eq!(rt; lines.put(0, 2, notice), Ok(()));
-    assert_eq!(rt; lines.take(2, 0), Ok(Message::Request));
-    assert_eq!(rt; lines.put(2, 0, notice), Ok(()));
-    assert_eq!(rt; lines.count(2, 0), Ok(3));
+    assert_eq!(rt; lines.put(Line { from: 0, to: 2 }, notice), Ok(()));
+    assert_eq!(rt; lines.take(Line { from: 2, to: 0 }), Ok(Message::Request));
+    assert_eq!(rt; lines.put(Line { from: 2, to: 0 }, notice), Ok(()));
+    assert_eq!(rt; lines.count(Line { from: 2, to: 0 }), Ok(3));
     for message in [probe, Message::Answer, notice] {
-        assert_eq!(rt; lines.take(2, 0), Ok(message));
+        assert_eq!(rt; lines.take(Line { from: 2, to: 0 }), Ok(message));
     }
-    assert_eq!(rt; lines.take(0, 2), Ok(notice));
+    assert_eq!(rt; lines.take(Line { from: 0, to: 2 }), Ok(notice));
 }
 
 #[test]
@@ -46,18 +46,24 @@ fn check_refuses_in_order(rt: HostRuntime) {
 fn calls_refuse_in_order_on_lines_of_one_place(rt: HostRuntime) {
     let mut memory = [0u8; 2];
     let mut lines = RingLines::make(&mut memory, 2, 1);
-    assert_eq!(rt; lines.put(2, 2, 1), Err(Refusal::NoBay));
-    assert_eq!(rt; lines.put(0, 257, 1), Err(Refusal::NoBay));
-    assert_eq!(rt; lines.put(1, 1, 1), Err(Refusal::SameBay));
-    assert_eq!(rt; lines.put(0, 1, 1), Ok(()));
-    assert_eq!(rt; lines.put(0, 1, 2), Err(Refusal::Full));
-    assert_eq!(rt; lines.take(256, 1), Err(Refusal::NoBay));
-    assert_eq!(rt; lines.take(0, 0), Err(Refusal::SameBay));
-    assert_eq!(rt; lines.take(1, 0), Err(Refusal::Empty));
-    assert_eq!(rt; lines.count(0, 2), Err(Refusal::NoBay));
-    assert_eq!(rt; lines.count(0, 0), Err(Refusal::SameBay));
-    assert_eq!(rt; lines.count(0, 1), Ok(1));
-    assert_eq!(rt; lines.take(0, 1), Ok(1));
+    assert_eq!(rt; lines.put(Line { from: 2, to: 2 }, 1), Err(Refusal::NoBay));
+    assert_eq!(rt;
+        lines.put(Line { from: 0, to: 257 }, 1),
+        Err(Refusal::NoBay)
+    );
+    assert_eq!(rt;
+        lines.put(Line { from: 1, to: 1 }, 1),
+        Err(Refusal::SameBay)
+    );
+    assert_eq!(rt; lines.put(Line { from: 0, to: 1 }, 1), Ok(()));
+    assert_eq!(rt; lines.put(Line { from: 0, to: 1 }, 2), Err(Refusal::Full));
+    assert_eq!(rt; lines.take(Line { from: 256, to: 1 }), Err(Refusal::NoBay));
+    assert_eq!(rt; lines.take(Line { from: 0, to: 0 }), Err(Refusal::SameBay));
+    assert_eq!(rt; lines.take(Line { from: 1, to: 0 }), Err(Refusal::Empty));
+    assert_eq!(rt; lines.count(Line { from: 0, to: 2 }), Err(Refusal::NoBay));
+    assert_eq!(rt; lines.count(Line { from: 0, to: 0 }), Err(Refusal::SameBay));
+    assert_eq!(rt; lines.count(Line { from: 0, to: 1 }), Ok(1));
+    assert_eq!(rt; lines.take(Line { from: 0, to: 1 }), Ok(1));
 }
 
 #[test]
@@ -66,7 +72,7 @@ fn refused_numbers_make_no_bays(rt: HostRuntime) {
     let mut lines = RingLines::make(&mut memory, 3, 1);
     assert_eq!(rt; lines.bays(), 0);
     assert_eq!(rt; lines.places(), 0);
-    assert_eq!(rt; lines.put(0, 1, 1), Err(Refusal::NoBay));
+    assert_eq!(rt; lines.put(Line { from: 0, to: 1 }, 1), Err(Refusal::NoBay));
 }
 
 // Puts on every line out of one bay a number of its own.
@@ -74,7 +80,7 @@ fn number_lines_from(rt: &impl Abort, lines: &mut RingLines<u16>, from: u16) {
     for to in 0..12 {
         if to != from {
             assert_eq!(rt;
-                lines.put(from, to, from.wrapping_mul(12).wrapping_add(to)),
+                lines.put(Line { from, to }, from.wrapping_mul(12).wrapping_add(to)),
                 Ok(())
             );
         }
@@ -86,7 +92,7 @@ fn take_numbers_from(rt: &impl Abort, lines: &mut RingLines<u16>, from: u16) {
     for to in 0..12 {
         if to != from {
             assert_eq!(rt;
-                lines.take(from, to),
+                lines.take(Line { from, to }),
                 Ok(from.wrapping_mul(12).wrapping_add(to))
             );
         }
@@ -104,13 +110,16 @@ fn largest_lines_share_no_place(rt: HostRuntime) -> Result<(), Fail> {
         number_lines_from(&rt, &mut lines, from);
     }
     for _ in 0..1023 {
-        assert_eq!(rt; lines.put(11, 10, 9999), Ok(()));
+        assert_eq!(rt; lines.put(Line { from: 11, to: 10 }, 9999), Ok(()));
     }
-    assert_eq!(rt; lines.put(11, 10, 9999), Err(Refusal::Full));
+    assert_eq!(rt;
+        lines.put(Line { from: 11, to: 10 }, 9999),
+        Err(Refusal::Full)
+    );
     for from in 0..12 {
         take_numbers_from(&rt, &mut lines, from);
     }
-    assert_eq!(rt; lines.count(11, 10), Ok(1023));
+    assert_eq!(rt; lines.count(Line { from: 11, to: 10 }), Ok(1023));
     Ok(())
 }
 

@@ -1,6 +1,6 @@
 use Rattle.bank.proofs.Lists.{list_none, rings_new}
 use Rattle.std.proofs.Common.{arith}
-use Rattle.bank.proofs.queues.Bank.laid_out.Goals as goal
+use Rattle.bank.proofs.queues.Bank.make.Goals as goal
 
 pub invariant_of-result-clause-short : goal.invariant_of-result-clause-short
 invariant_of-result-clause-short g c q = let e = rings_new 132 q in omega arith
