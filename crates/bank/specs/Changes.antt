@@ -1,13 +1,13 @@
 -- What an accepted call makes of a bank.
-use Rattle.std.specs.Prelude.{◌≡◌, ℕ, cond, List, [], ◌∷◌, ◌++◌, drop, ◌==◌, slice_set}
+use Rattle.std.specs.Prelude.{◌≡◌, ℕ, if◌then◌else◌, List, [], ◌∷◌, ◌++◌, drop, ◌==◌, slice_set}
 use Rattle.bank.specs.Meaning.{lender_of, memory_of, queues_of, places_of, queue, next_place, Free}
 use Rattle.bank.specs.declared.queues.Bank.{Bank}
 
--- b' is b with f of its list in queue q, over the same memory; the numbers and all other lists stay
+-- b' is b with f of its list in queue q; the numbers, the loan of the memory and all other lists stay
 pub record Changes {T : Type 0} (b b' : Bank T) (q : ℕ) (f : List T → List T) : Type 0 where
   pub queues : queues_of b' ≡ queues_of b
   pub places : places_of b' ≡ places_of b
-  pub lists : (j : ℕ) → queue b' j ≡ cond (j == q) (f (queue b q)) (queue b j)
+  pub lists : (j : ℕ) → queue b' j ≡ (if j == q then f (queue b q) else queue b j)
   pub lender : lender_of b' ≡ lender_of b
 
 -- b' is b after an accepted put of x in queue q

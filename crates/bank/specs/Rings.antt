@@ -1,5 +1,5 @@
 -- The queues that lie in a memory as rings.
-use Rattle.std.specs.Prelude.{ℕ, cond, List, [], nat_lt, slice_index_or}
+use Rattle.std.specs.Prelude.{ℕ, if◌then◌else◌, List, [], nat_lt, slice_index_or}
 use Rattle.bank.specs.Cells.{cells, place}
 use Rattle.bank.specs.declared.rings.Ring.{Ring}
 
@@ -10,4 +10,4 @@ ring_of rings q = slice_index_or rings q (record { first = 0; waiting = 0 })
 -- the list of queue q among the first `queues` queues, oldest record first, by the memory and the rings; past them there is nothing
 unfoldable pub list_in : {T : Type 0} → List T → ℕ → ℕ → List Ring → ℕ → List T
 list_in memory queues places rings q =
-    cond (nat_lt q queues) (cells memory (place places q (ring_of rings q).first) (ring_of rings q).waiting) []
+    if nat_lt q queues then cells memory (place places q (ring_of rings q).first) (ring_of rings q).waiting else []

@@ -29,11 +29,9 @@ pub struct Bank<'a, T: Copy> {
 }
 
 impl<'a, T: Copy> Bank<'a, T> {
-    ghost use Rattle.std.specs.Prelude.{◌≡◌, ℕ, ◌<◌, ◌≤◌, ◌*◌, true, false, [], length, is_ok, if◌then◌else◌, Some, slice_get};
-    ghost use Rattle.bank.specs.Cells.{place};
-    ghost use Rattle.bank.specs.Rings.{ring_of};
-    ghost use Rattle.bank.specs.Meaning.{lender_of, memory_of, queues_of, places_of, queue};
-    ghost use Rattle.bank.specs.Answers.{check_answer, put_answer, take_answer, count_answer};
+    ghost use Rattle.std.specs.Prelude.{◌≡◌, ℕ, ◌<◌, [], length, OnOk, OnErr, Some, slice_get};
+    ghost use Rattle.bank.specs.Meaning.{lender_of, memory_of, queues_of, places_of, queue, place_of};
+    ghost use Rattle.bank.specs.Answers.{check_answer, made, put_answer, take_answer, count_answer};
     ghost use Rattle.bank.specs.Changes.{Added, Removed};
 
     // `check` and `make` take two numbers and no struct of them: nothing else takes both, and ring lines have others.
@@ -56,8 +54,8 @@ impl<'a, T: Copy> Bank<'a, T> {
 
     /// A bank of empty queues, which leaves the memory as it is. From what `check` refuses: no queues and no places.
     pub fn make(memory: &'a mut [T], queues: u16, places: u16) -> Self
-        ensures queues { queues_of result ≡ (if is_ok (check_answer (length memory.old) queues places) then queues else 0) }
-        ensures places { places_of result ≡ (if is_ok (check_answer (length memory.old) queues places) then places else 0) }
+        ensures queues { queues_of result ≡ made (check_answer (length memory.old) queues places) queues }
+        ensures places { places_of result ≡ made (check_answer (length memory.old) queues places) places }
         ensures lender { lender_of result ≡ memory.entry.ghost_name }
         ensures memory { memory_of result ≡ memory.old }
         ensures empty { (q : ℕ) → queue result q ≡ [] }
@@ -99,11 +97,13 @@ impl<'a, T: Copy> Bank<'a, T> {
         Ok(self.rings[q as usize].waiting)
     }
 
+    // The private calls below require that there is a queue q: a line in each, for the test that the public call has made.
+
     // The place of the k-th record of queue q, counted from its oldest.
     fn place(&self, q: u16, k: u16) -> usize
         requires queue { q < queues_of self.now }
         requires within { k < places_of self.now }
-        ensures value { result ≡ place self.now.places q (ring_of self.now.rings q).first k }
+        ensures value { result ≡ place_of self.now q k }
         ensures bound { result < length (memory_of self.now) }
     {
         let places = self.places as usize;
@@ -113,8 +113,8 @@ impl<'a, T: Copy> Bank<'a, T> {
     /// Adds the item as the newest record of queue q.
     pub fn put(&mut self, q: u16, item: T) -> Result<(), Refusal>
         ensures answer { result ≡ put_answer self.old q }
-        ensures refused { is_ok result ≡ false → self.new ≡ self.old }
-        ensures accepted { is_ok result ≡ true → Added self.old self.new q item }
+        ensures refused { OnErr result (self.new ≡ self.old) }
+        ensures accepted { OnOk result (Added self.old self.new q item) }
     {
         if self.count(q)? >= self.places {
             return Err(Refusal::Full);
@@ -139,8 +139,8 @@ impl<'a, T: Copy> Bank<'a, T> {
     /// Removes the oldest record of queue q and answers it.
     pub fn take(&mut self, q: u16) -> Result<T, Refusal>
         ensures answer { result ≡ take_answer self.old q }
-        ensures refused { is_ok result ≡ false → self.new ≡ self.old }
-        ensures accepted { is_ok result ≡ true → Removed self.old self.new q }
+        ensures refused { OnErr result (self.new ≡ self.old) }
+        ensures accepted { OnOk result (Removed self.old self.new q) }
     {
         if self.count(q)? == 0 {
             return Err(Refusal::Empty);

@@ -13,6 +13,8 @@ pub enum Refusal {
 }
 
 impl Refusal {
+    // Once for each layer's enum: a trait of it would be written out in each all the same.
+
     /// The refusal's number in the table.
     pub fn number(self) -> u8
         ensures { result ≡ number self }

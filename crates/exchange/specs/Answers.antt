@@ -1,5 +1,5 @@
 -- What the calls of an exchange answer. The conditions of a call are tried in the order written; the first that holds gives the refusal.
-use Rattle.std.specs.Prelude.{ℕ, ◌-◌, ◌*◌, cond, ◌||◌, length, slice_get, ok_or, Ok, Err, Result, ◌==◌, nat_le, nat_lt}
+use Rattle.std.specs.Prelude.{ℕ, ◌-◌, ◌*◌, if◌then◌else◌, ◌||◌, length, slice_get, ok_or, Ok, Err, Result, ◌==◌, nat_le, nat_lt}
 use Rattle.bank.specs.declared.refusals.Refusal as bank
 use Rattle.bank.specs.declared.refusals.Refusal.TheVariants as queues
 use Rattle.exchange.specs.Lines.{Lines}
@@ -26,25 +26,25 @@ line_refusal queues.NoQueue = NoBay
 line_refusal queues.Full = Full
 line_refusal queues.Empty = Empty
 
--- what the check before a making of lines answers, of a memory of `len` records
+-- what the check before a making of lines answers, of a memory of `len` records. It stands beside the bank's, since it holds of exchanges on no bank too
 abbrev pub check_answer : ℕ → ℕ → ℕ → Result (Unit {0}) Refusal
 check_answer len bays places =
-    cond (nat_lt bays 2 || nat_lt 12 bays) (Err Bays)
-    (cond (nat_lt places 1 || nat_lt 1024 places) (Err Places)
-    (cond (nat_lt len (bays * (bays - 1) * places)) (Err Memory)
-    (Ok tt)))
+    if nat_lt bays 2 || nat_lt 12 bays then Err Bays
+    else if nat_lt places 1 || nat_lt 1024 places then Err Places
+    else if nat_lt len (bays * (bays - 1) * places) then Err Memory
+    else Ok tt
 
 module _ {K : Type 0} where
   -- the answer r of a call on a line, unless there is no such line
   abbrev pub on_line : {X : Type 0} → Lines K → Line → Result X Refusal → Result X Refusal
   on_line l line r =
-      cond (nat_le l.bays line.from || nat_le l.bays line.to) (Err NoBay)
-      (cond (line.from == line.to) (Err SameBay)
-      r)
+      if nat_le l.bays line.from || nat_le l.bays line.to then Err NoBay
+      else if line.from == line.to then Err SameBay
+      else r
 
   -- what a put on a line answers
   abbrev pub put_answer : Lines K → Line → Result (Unit {0}) Refusal
-  put_answer l line = on_line l line (cond (nat_le l.places (length (l.at line))) (Err Full) (Ok tt))
+  put_answer l line = on_line l line (if nat_le l.places (length (l.at line)) then Err Full else Ok tt)
 
   -- what a take from it answers: the oldest, if there is one
   abbrev pub take_answer : Lines K → Line → Result K Refusal

@@ -1,5 +1,5 @@
 -- What an exchange stands for, for any kind K of message.
-use Rattle.std.specs.Prelude.{ℕ, Bool, cond, not, ◌&&◌, List, [], ◌∷◌, ◌++◌, drop, ◌==◌, nat_lt}
+use Rattle.std.specs.Prelude.{ℕ, Bool, if◌then◌else◌, not, ◌&&◌, List, [], ◌∷◌, ◌++◌, drop, ◌==◌, nat_lt}
 use Rattle.exchange.specs.declared.lines.Line.{Line}
 
 pub record Lines (K : Type 0) : Type 0 where
@@ -25,7 +25,7 @@ module _ {K : Type 0} where
 
   -- the lines l, with xs in place of one list
   abbrev pub with_line : Lines K → Line → List K → Lines K
-  with_line l line xs = record { bays = l.bays; places = l.places; at = λ a. cond (same_line a line) xs (l.at a) }
+  with_line l line xs = record { bays = l.bays; places = l.places; at = λ a. if same_line a line then xs else l.at a }
 
   -- after an accepted put: m waits behind the others
   abbrev pub with_put : Lines K → Line → K → Lines K

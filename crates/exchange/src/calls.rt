@@ -1,4 +1,4 @@
-ghost use Rattle.std.specs.Prelude.{◌≡◌, ◌≤◌, true, false, [], length, is_ok};
+ghost use Rattle.std.specs.Prelude.{◌≡◌, ◌≤◌, false, [], length, OnOk, OnErr};
 ghost use Rattle.exchange.specs.Lines.{Lines, joins, with_put, with_take};
 ghost use Rattle.exchange.specs.Answers.{put_answer, take_answer, count_answer};
 ghost use Rattle.exchange.specs.declared.lines.Line.{Line};
@@ -30,14 +30,14 @@ pub trait Exchange {
     /// Adds a message at the end of a line.
     fn put(&mut self, line: Line, message: Self::Message) -> Result<(), Refusal>
         ensures answer { result ≡ put_answer (lines self.old) line }
-        ensures refused { is_ok result ≡ false → self.new ≡ self.old }
-        ensures after { is_ok result ≡ true → lines self.new ≡ with_put (lines self.old) line message };
+        ensures refused { OnErr result (self.new ≡ self.old) }
+        ensures after { OnOk result (lines self.new ≡ with_put (lines self.old) line message) };
 
     /// Removes the oldest message of a line and answers it.
     fn take(&mut self, line: Line) -> Result<Self::Message, Refusal>
         ensures answer { result ≡ take_answer (lines self.old) line }
-        ensures refused { is_ok result ≡ false → self.new ≡ self.old }
-        ensures after { is_ok result ≡ true → lines self.new ≡ with_take (lines self.old) line };
+        ensures refused { OnErr result (self.new ≡ self.old) }
+        ensures after { OnOk result (lines self.new ≡ with_take (lines self.old) line) };
 
     // No list is longer than its line has places.
     ghost short: { (x : Self) (line : Line) → length ((lines x).at line) ≤ (lines x).places };

@@ -26,6 +26,8 @@ impl Refusal {
         self as u8
     }
 
+    // A `match` beside `Display`: of what a derive of the crate `thiserror` writes, nothing could be proved.
+
     /// Why, in words.
     pub fn reason(self) -> &'static str
         ensures { result.now ≡ reason self }
@@ -42,7 +44,7 @@ impl Refusal {
     }
 }
 
-// What the refusal of a bank is called where its queues are lines. Its number stays.
+/// What the refusal of a bank is called where its queues are lines. Its number stays.
 impl From<bank::Refusal> for Refusal {
     ghost from_gives = { λ b r. r ≡ line_refusal b };
 

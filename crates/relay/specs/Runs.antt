@@ -1,5 +1,5 @@
 -- What steps on an exchange are answered and leave, by the lines that the exchange stands for.
-use Rattle.std.specs.Prelude.{◌≡◌, cond, List, [], ◌∷◌, ◌++◌, is_ok, Ok, Err, Result, Some, None, Option}
+use Rattle.std.specs.Prelude.{◌≡◌, if◌then◌else◌, List, [], ◌∷◌, ◌++◌, is_ok, Ok, Err, Result, Some, None, Option}
 use Rattle.exchange.specs.Lines.{Lines, same_line, with_put, with_take}
 use Rattle.exchange.specs.Answers.{put_answer, take_answer}
 use Rattle.exchange.specs.declared.lines.Line.{Line}
@@ -28,8 +28,8 @@ outcome_of l (Take line) = take_outcome (take_answer l line)
 
 -- the lines after it
 abbrev pub lines_after : Lines Message → Step → Lines Message
-lines_after l (Put line m) = cond (is_ok (put_answer l line)) (with_put l line m) l
-lines_after l (Take line) = cond (is_ok (take_answer l line)) (with_take l line) l
+lines_after l (Put line m) = if is_ok (put_answer l line) then with_put l line m else l
+lines_after l (Take line) = if is_ok (take_answer l line) then with_take l line else l
 
 -- an entry for a step that has not been made
 abbrev pub pending : Step → Entry
@@ -52,7 +52,7 @@ lines_after_all l (e ∷ es) = lines_after_all (lines_after l e.step) es
 -- what a step with this outcome, or one that has not been made, put on the line a
 abbrev pub put_by : Line → Step → Option Outcome → List Message
 put_by a (Put line m) None = []
-put_by a (Put line m) (Some Accepted) = cond (same_line a line) (m ∷ []) []
+put_by a (Put line m) (Some Accepted) = if same_line a line then m ∷ [] else []
 put_by a (Put line m) (Some (Taken x)) = []
 put_by a (Put line m) (Some (Refused e)) = []
 put_by a (Take line) o = []
@@ -62,7 +62,7 @@ abbrev pub taken_by : Line → Step → Option Outcome → List Message
 taken_by a (Put line m) o = []
 taken_by a (Take line) None = []
 taken_by a (Take line) (Some Accepted) = []
-taken_by a (Take line) (Some (Taken x)) = cond (same_line a line) (x ∷ []) []
+taken_by a (Take line) (Some (Taken x)) = if same_line a line then x ∷ [] else []
 taken_by a (Take line) (Some (Refused e)) = []
 
 -- the messages that a log tells of, entry after entry

@@ -27,8 +27,8 @@ impl Entry {
 
     /// Makes the step, and notes what became of it.
     pub fn make<E: Exchange<Message = Message>>(&mut self, exchange: &mut E)
-        ensures entry { self.new ≡ made_on (E.Exchange.lines exchange.old) self.old }
-        ensures lines { E.Exchange.lines exchange.new ≡ lines_after (E.Exchange.lines exchange.old) self.old.step }
+        ensures entry { self.new ≡ made_on (E.lines exchange.old) self.old }
+        ensures lines { E.lines exchange.new ≡ lines_after (E.lines exchange.old) self.old.step }
         ensures refused { (e : Refusal) → self.new.outcome ≡ Some (Refused e) → exchange.new ≡ exchange.old }
     {
         self.outcome = Some(self.step.make(exchange));

@@ -12,6 +12,7 @@ use crate::entries::Entry;
 use crate::list::STEPS;
 use exchange::{Exchange, Message};
 use ring_lines::RingLines;
+use std::alloc::Global;
 
 const BAYS: u16 = 3;
 
@@ -21,10 +22,10 @@ const PLACES: u16 = 4;
 const RECORDS: usize = BAYS as usize * (BAYS as usize - 1) * PLACES as usize;
 
 fn main(rt: HostRuntime) -> anyhow::Result<()> {
-    run(&rt)
+    run(&rt, rt.alloc())
 }
 
-fn run(rt: &HostRuntime) -> anyhow::Result<()> {
+fn run(rt: &impl Print, heap: Global) -> anyhow::Result<()> {
     let mut memory = [Message::Request; RECORDS];
     RingLines::check(&memory, BAYS, PLACES)?;
     let mut lines = RingLines::make(&mut memory, BAYS, PLACES);
@@ -33,7 +34,7 @@ fn run(rt: &HostRuntime) -> anyhow::Result<()> {
         lines.bays(),
         lines.places()
     )?;
-    let mut log = Entry::log(rt.alloc(), &STEPS)?;
+    let mut log = Entry::log(heap, &STEPS)?;
     carry(&mut lines, &mut log);
     for (i, entry) in log.iter().enumerate() {
         println!(rt; "{} {entry}", i + 1)?;

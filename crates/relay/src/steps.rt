@@ -18,8 +18,8 @@ pub enum Step {
 impl Step {
     /// Makes the step, and answers what became of it.
     pub fn make<E: Exchange<Message = Message>>(self, exchange: &mut E) -> Outcome
-        ensures outcome { result ≡ outcome_of (E.Exchange.lines exchange.old) self }
-        ensures lines { E.Exchange.lines exchange.new ≡ lines_after (E.Exchange.lines exchange.old) self }
+        ensures outcome { result ≡ outcome_of (E.lines exchange.old) self }
+        ensures lines { E.lines exchange.new ≡ lines_after (E.lines exchange.old) self }
         ensures refused { (e : Refusal) → result ≡ Refused e → exchange.new ≡ exchange.old }
     {
         match self {

@@ -1,7 +1,8 @@
 -- Each line between two bays has a queue of its own.
-use Rattle.std.proofs.Common.{◌≡◌, ℕ, ◌-◌, ◌*◌, ◌/◌, ◌%◌, ◌<◌, true, cond, not, ◌&&◌, eqb, ltb, ◌≢◌, ◌⊎◌, List, [], sym, refl, ap, ◌∙◌, subst, inl, inr, ⊎_elim, mul_comm, arith}
+use Rattle.std.proofs.Common.{◌≡◌, ℕ, ◌-◌, ◌*◌, ◌/◌, ◌%◌, ◌<◌, true, cond, eqb, ltb, ◌≢◌, List, [], sym, refl, ap, ◌∙◌, subst, ⊎_elim, mul_comm, arith}
 use Rattle.std.proofs.lemmas.Nat.{mul-add-lt, div-mul-add, mod-mul-add}
-use Rattle.std.proofs.lemmas.Bool.{and_parts, ltb-true, eqb-false, not-true, lt-ltb, le-ltb, eq-eqb, ne_eqb, cases_lt, cases_Bool, cond-true, cond-false}
+use Rattle.std.proofs.lemmas.Bool.Decides.{nat_tests}
+use Rattle.std.proofs.lemmas.Bool.{eq-eqb, ne_eqb, cases_Bool}
 use Rattle.exchange.specs.Lines.{same_line, two_bays}
 use Rattle.exchange.specs.declared.lines.Line.{Line}
 use Rattle.exchange.proofs.OnLine.{line_ext, same_line-true, same_line-false, same_line-refl}
@@ -14,24 +15,17 @@ pub record Pair (n : ℕ) (line : Line) : Type 0 where
   pub apart : line.from ≢ line.to
 
 pub pair : (n : ℕ) (line : Line) → two_bays n line ≡ true → Pair n line
-pair n line e =
-    let p = and_parts (ltb line.from n) (ltb line.to n && not (eqb line.from line.to)) e in
-    let r = and_parts (ltb line.to n) (not (eqb line.from line.to)) p.1 in
-    record { from = ltb-true line.from n p.0; to = ltb-true line.to n r.0; apart = eqb-false line.from line.to (not-true (eqb line.from line.to) r.1) }
+pair n line e = record { from = grind (arith, nat_tests); to = grind (arith, nat_tests); apart = grind (arith, nat_tests) }
 
 -- the receiver's place among the n - 1 others
 abbrev column : Line → ℕ
 column line = cond (ltb line.to line.from) line.to (line.to - 1)
 
-column_is : (n : ℕ) (line : Line) → Pair n line → ((column line ≡ line.to) × (line.to < line.from)) ⊎ ((column line ≡ line.to - 1) × (line.from < line.to))
-column_is n line p =
-    ⊎_elim
-    (λ l. inl (cond-true (ltb line.to line.from) line.to (line.to - 1) (lt-ltb line.to line.from l), l))
-    (λ l. inr (cond-false (ltb line.to line.from) line.to (line.to - 1) (le-ltb line.to line.from l), let ne : line.from ≢ line.to = p.apart in omega arith))
-    (cases_lt line.to line.from)
-
 column_below : (n : ℕ) (line : Line) → Pair n line → column line < n - 1
-column_below n line p = ⊎_elim (λ u. omega (arith, u.0, u.1, p.from, p.to)) (λ u. omega (arith, u.0, u.1, p.from, p.to)) (column_is n line p)
+column_below n line p = grind (arith, nat_tests)
+
+column_same : (a b : Line) → a.from ≢ a.to → b.from ≢ b.to → a.from ≡ b.from → column a ≡ column b → a.to ≡ b.to
+column_same a b p r row place = grind (arith, nat_tests)
 
 pub queue_below : (n : ℕ) (line : Line) → Pair n line → queue_of n line < n * (n - 1)
 queue_below n line p = omega (arith, mul-add-lt line.from (n - 1) (column line) n p.from (column_below n line p), mul_comm n (n - 1))
@@ -43,12 +37,7 @@ queue_same n a b p r e =
     let v = column_below n b r in
     let row : a.from ≡ b.from = sym (div-mul-add a.from (n - 1) (column a) u) ∙ ap (λ x. x / (n - 1)) e ∙ div-mul-add b.from (n - 1) (column b) v in
     let place : column a ≡ column b = sym (mod-mul-add a.from (n - 1) (column a) u) ∙ ap (λ x. x % (n - 1)) e ∙ mod-mul-add b.from (n - 1) (column b) v in
-    let to : a.to ≡ b.to =
-    ⊎_elim
-    (λ x. ⊎_elim (λ y. omega (arith, x.0, x.1, y.0, y.1)) (λ y. omega (arith, x.0, x.1, y.0, y.1)) (column_is n b r))
-    (λ x. ⊎_elim (λ y. omega (arith, x.0, x.1, y.0, y.1)) (λ y. omega (arith, x.0, x.1, y.0, y.1)) (column_is n b r))
-    (column_is n a p) in
-    line_ext a b row to
+    line_ext a b row (column_same a b p.apart r.apart row place)
 
 -- one queue of a bank changes: so does one line, and no other
 module _ {M : Type 0} (n : ℕ) (before after : ℕ → List M) (line : Line) (f : List M → List M) where

@@ -1,5 +1,5 @@
 -- What ring lines stand for.
-use Rattle.std.specs.Prelude.{ℕ, ◌+◌, ◌-◌, ◌*◌, cond, [], nat_lt}
+use Rattle.std.specs.Prelude.{ℕ, ◌+◌, ◌-◌, ◌*◌, if◌then◌else◌, [], nat_lt}
 use Rattle.bank.specs.Meaning.{queue, places_of}
 use Rattle.exchange.specs.Lines.{Lines, two_bays}
 use Rattle.exchange.specs.declared.lines.Line.{Line}
@@ -7,7 +7,7 @@ use Rattle.ring_lines.specs.declared.lines.RingLines.{RingLines}
 
 -- the queue of a line among n bays: by sender, then by receiver, leaving out the sender itself
 abbrev pub queue_of : ℕ → Line → ℕ
-queue_of n line = line.from * (n - 1) + cond (nat_lt line.to line.from) line.to (line.to - 1)
+queue_of n line = line.from * (n - 1) + (if nat_lt line.to line.from then line.to else line.to - 1)
 
 -- the lines: each has the list of its queue
 abbrev pub ring_lines : {K : Type 0} → RingLines K → Lines K
@@ -16,5 +16,5 @@ ring_lines x =
       bays = x.bays;
       places = places_of x.bank;
       at = λ line.
-          cond (two_bays x.bays line) (queue x.bank (queue_of x.bays line)) [];
+          if two_bays x.bays line then queue x.bank (queue_of x.bays line) else [];
     }

@@ -23,8 +23,9 @@ pub struct RingLines<'a, K: Copy> {
 }
 
 impl<'a, K: Copy> RingLines<'a, K> {
-    ghost use Rattle.std.specs.Prelude.{◌≡◌, [], length, is_ok, if◌then◌else◌, Ok};
+    ghost use Rattle.std.specs.Prelude.{◌≡◌, [], length, Ok};
     ghost use Rattle.bank.specs.Meaning.{lender_of, memory_of};
+    ghost use Rattle.bank.specs.Answers.{made};
     ghost use Rattle.exchange.specs.Answers.{check_answer, on_line};
     ghost use Rattle.exchange.specs.declared.lines.Line.{Line};
     ghost use Rattle.ring_lines.specs.Meaning.{queue_of, ring_lines};
@@ -41,8 +42,8 @@ impl<'a, K: Copy> RingLines<'a, K> {
 
     /// Empty lines, which leave the memory as it is. From what `check` refuses: no bays and no places.
     pub fn make(memory: &'a mut [K], bays: u16, places: u16) -> Self
-        ensures bays { (ring_lines result).bays ≡ (if is_ok (check_answer (length memory.old) bays places) then bays else 0) }
-        ensures places { (ring_lines result).places ≡ (if is_ok (check_answer (length memory.old) bays places) then places else 0) }
+        ensures bays { (ring_lines result).bays ≡ made (check_answer (length memory.old) bays places) bays }
+        ensures places { (ring_lines result).places ≡ made (check_answer (length memory.old) bays places) places }
         ensures lender { lender_of result.bank ≡ memory.entry.ghost_name }
         ensures memory { memory_of result.bank ≡ memory.old }
         ensures empty { (line : Line) → (ring_lines result).at line ≡ [] }
@@ -72,7 +73,7 @@ impl<'a, K: Copy> RingLines<'a, K> {
 }
 
 impl<'a, K: Copy> Exchange for RingLines<'a, K> {
-    ghost use Rattle.std.specs.Prelude.{◌≡◌, true, false, is_ok};
+    ghost use Rattle.std.specs.Prelude.{◌≡◌, OnOk, OnErr};
     ghost use Rattle.bank.specs.Changes.{Added, Removed};
     ghost use Rattle.exchange.specs.Lines.{with_put, with_take};
     ghost use Rattle.exchange.specs.Answers.{put_answer, take_answer};
@@ -91,28 +92,31 @@ impl<'a, K: Copy> Exchange for RingLines<'a, K> {
         self.bank.places()
     }
 
+    #[tactic(auto, using(crate::proofs::Found::refused, crate::proofs::Found::count_is))]
     fn count(&self, line: Line) -> Result<u16, Refusal> {
         let q = self.queue(line)?;
         Ok(self.bank.count(q)?)
     }
 
     // The line's queue gets the message, and no other queue changes. (An `impl` that adds a clause says the trait's again.)
+    #[tactic(auto, using(crate::proofs::Found::refused, crate::proofs::Found::put_is))]
     fn put(&mut self, line: Line, message: K) -> Result<(), Refusal>
         ensures answer { result ≡ put_answer (ring_lines self.old) line }
-        ensures refused { is_ok result ≡ false → self.new ≡ self.old }
-        ensures after { is_ok result ≡ true → ring_lines self.new ≡ with_put (ring_lines self.old) line message }
-        ensures bank { is_ok result ≡ true → Added self.old.bank self.new.bank (queue_of (ring_lines self.old).bays line) message }
+        ensures refused { OnErr result (self.new ≡ self.old) }
+        ensures after { OnOk result (ring_lines self.new ≡ with_put (ring_lines self.old) line message) }
+        ensures bank { OnOk result (Added self.old.bank self.new.bank (queue_of (ring_lines self.old).bays line) message) }
     {
         let q = self.queue(line)?;
         Ok(self.bank.put(q, message)?)
     }
 
     // The line's queue loses its oldest message, and no other queue changes.
+    #[tactic(auto, using(crate::proofs::Found::refused, crate::proofs::Found::take_is))]
     fn take(&mut self, line: Line) -> Result<K, Refusal>
         ensures answer { result ≡ take_answer (ring_lines self.old) line }
-        ensures refused { is_ok result ≡ false → self.new ≡ self.old }
-        ensures after { is_ok result ≡ true → ring_lines self.new ≡ with_take (ring_lines self.old) line }
-        ensures bank { is_ok result ≡ true → Removed self.old.bank self.new.bank (queue_of (ring_lines self.old).bays line) }
+        ensures refused { OnErr result (self.new ≡ self.old) }
+        ensures after { OnOk result (ring_lines self.new ≡ with_take (ring_lines self.old) line) }
+        ensures bank { OnOk result (Removed self.old.bank self.new.bank (queue_of (ring_lines self.old).bays line)) }
     {
         let q = self.queue(line)?;
         Ok(self.bank.take(q)?)

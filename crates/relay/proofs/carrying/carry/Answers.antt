@@ -1,4 +1,4 @@
-use Rattle.std.proofs.Common.{◌<◌, length, arith}
+use Rattle.std.proofs.Common.{arith}
 use Rattle.relay.proofs.InOrder.{in_order}
 use Rattle.relay.proofs.Runs.{underway_none, underway_more, underway_all}
 use Rattle.relay.proofs.carrying.carry.Goals as goal
