@@ -16,10 +16,10 @@ ring_other : (rings : List Ring) (q j : ℕ) (x : Ring) → j ≢ q → ring_of 
 ring_other rings q j x ne = get_or-set_other rings q j x (ring 0 0) ne
 
 -- a new table of rings has nothing waiting
-pub rings_new : (n q : ℕ) → (ring_of (replicate n (ring 0 0)) q).waiting ≡ 0
-rings_new zero q = refl
-rings_new (suc n) zero = refl
-rings_new (suc n) (suc q) = rings_new n q
+pub rings_new : (r : Ring) → r.waiting ≡ 0 → (n q : ℕ) → (ring_of (replicate n r) q).waiting ≡ 0
+rings_new r e zero q = refl
+rings_new r e (suc n) zero = e
+rings_new r e (suc n) (suc q) = rings_new r e n q
 
 -- a ring that is replaced by one with few enough records leaves all of them so
 pub short_set : (rings : List Ring) (places q : ℕ) (x : Ring) → q < length rings → x.waiting ≤ places → ((j : ℕ) → (ring_of rings j).waiting ≤ places) → (j : ℕ) → (ring_of (set rings q x) j).waiting ≤ places

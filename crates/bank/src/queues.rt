@@ -15,7 +15,7 @@ pub const MOST_PLACES: u16 = 1024;
 /// its records lie in them as in a ring.
 #[derive(Drop)]
 pub struct Bank<'a, T: Copy> {
-    // lent memory and a table of fixed size, since a charger has no heap
+    // lent memory, and a table of fixed size with the number of rings that count, since a charger has no heap
     memory: &'a mut [T],
     queues: u16,
     places: u16,
@@ -34,7 +34,7 @@ impl<'a, T: Copy> Bank<'a, T> {
     ghost use Rattle.bank.specs.Answers.{check_answer, made, put_answer, take_answer, count_answer};
     ghost use Rattle.bank.specs.Changes.{Added, Removed};
 
-    // `check` and `make` take two numbers and no struct of them: nothing else takes both, and ring lines have others.
+    // `check` and `make` take two numbers and no struct of them, which would be built for these two calls alone.
 
     /// Whether so many queues of so many places can be made in the memory.
     pub fn check(memory: &[T], queues: u16, places: u16) -> Result<(), Refusal>
@@ -68,7 +68,7 @@ impl<'a, T: Copy> Bank<'a, T> {
             memory,
             queues,
             places,
-            rings: [Ring::EMPTY; MOST_QUEUES as usize],
+            rings: [Ring::default(); MOST_QUEUES as usize],
         }
     }
 
@@ -97,7 +97,7 @@ impl<'a, T: Copy> Bank<'a, T> {
         Ok(self.rings[q as usize].waiting)
     }
 
-    // The private calls below require that there is a queue q: a line in each, for the test that the public call has made.
+    // The private calls below require that there is a queue q: a line in each, for the test that `put` or `take` has made.
 
     // The place of the k-th record of queue q, counted from its oldest.
     fn place(&self, q: u16, k: u16) -> usize

@@ -7,7 +7,7 @@ use Rattle.exchange.specs.declared.lines.Line.{Line}
 use Rattle.exchange.specs.declared.refusals.Refusal.{Refusal}
 use Rattle.exchange.specs.declared.refusals.Refusal.TheVariants.{Bays, Places, Memory, NoBay, SameBay, Full, Empty}
 
--- each refusal's number
+-- each refusal's number, each layer's by a table of its own
 abbrev pub number : Refusal → ℕ
 number Bays = 1
 number Places = 2
@@ -26,7 +26,7 @@ line_refusal queues.NoQueue = NoBay
 line_refusal queues.Full = Full
 line_refusal queues.Empty = Empty
 
--- what the check before a making of lines answers, of a memory of `len` records. It stands beside the bank's, since it holds of exchanges on no bank too
+-- what the check before a making of lines answers, of a memory of `len` records. It stands beside the bank's, since it is that of exchanges on no bank too
 abbrev pub check_answer : ℕ → ℕ → ℕ → Result (Unit {0}) Refusal
 check_answer len bays places =
     if nat_lt bays 2 || nat_lt 12 bays then Err Bays

@@ -19,6 +19,8 @@ pub enum Refusal {
 }
 
 impl Refusal {
+    // Once for each layer's enum: a trait of it would be written out in each all the same.
+
     /// The refusal's number in the table.
     pub fn number(self) -> u8
         ensures { result ≡ number self }
@@ -26,7 +28,7 @@ impl Refusal {
         self as u8
     }
 
-    // A `match` beside `Display`: of what a derive of the crate `thiserror` writes, nothing could be proved.
+    // The words alone, by a `match` as `Display` would have it; what a derive of the crate `thiserror` writes has no contract.
 
     /// Why, in words.
     pub fn reason(self) -> &'static str

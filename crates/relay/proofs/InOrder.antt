@@ -1,6 +1,7 @@
 -- Lines give out what came on them, in the order in which it came.
 use Rattle.std.proofs.Common.{◌≡◌, cond, List, [], ◌∷◌, ◌++◌, drop, is_ok, Ok, Err, Result, sym, refl, ap, ◌∙◌, ⊎_elim, append_assoc}
-use Rattle.std.specs.Prelude.{ok_or, slice_get, Some}
+use Rattle.std.specs.Prelude.{ok_or, slice_get, Some, None}
+use Rattle.std.specs.Result.{result_map_both}
 use Rattle.std.proofs.lemmas.List.{append-nil}
 use Rattle.std.proofs.lemmas.Bool.{cases_Bool}
 use Rattle.exchange.specs.Lines.{Lines, same_line, with_put, with_take}
@@ -10,7 +11,7 @@ use Rattle.exchange.specs.declared.messages.Message.{Message}
 use Rattle.exchange.specs.declared.refusals.Refusal.{Refusal}
 use Rattle.exchange.specs.declared.refusals.Refusal.TheVariants.{Empty}
 use Rattle.exchange.proofs.OnLine.{same_line-true, answered}
-use Rattle.relay.specs.Runs.{put_outcome, take_outcome, outcome_of, lines_after, log_of, lines_after_all, put_by, taken_by, all_by, InOrder}
+use Rattle.relay.specs.Runs.{outcome_of, lines_after, log_of, lines_after_all, put_by, taken_by, all_by, InOrder}
 use Rattle.relay.specs.declared.steps.Step.{Step}
 use Rattle.relay.specs.declared.steps.Step.TheVariants.{Put, Take}
 use Rattle.relay.specs.declared.entries.Entry.{Entry}
@@ -39,11 +40,11 @@ oldest_first : (l : List Message) (x : Message) → ok_or (slice_get l 0) Empty 
 oldest_first [] x e = cc
 oldest_first (y ∷ ys) x e = cc
 
-put_one : (l : Lines Message) (line : Line) (m : Message) (r : Result (Unit {0}) Refusal) (a : Line) → taken_by a (Put line m) (Some (put_outcome r)) ++ (cond (is_ok r) (with_put l line m) l).at a ≡ l.at a ++ put_by a (Put line m) (Some (put_outcome r))
+put_one : (l : Lines Message) (line : Line) (m : Message) (r : Result (Unit {0}) Refusal) (a : Line) → taken_by a (Put line m) (Some (result_map_both (λ u. None) (λ e. e) r)) ++ (cond (is_ok r) (with_put l line m) l).at a ≡ l.at a ++ put_by a (Put line m) (Some (result_map_both (λ u. None) (λ e. e) r))
 put_one l line m (Ok u) a = put_line l line m a
 put_one l line m (Err e) a = sym (append-nil (l.at a))
 
-take_one : (l : Lines Message) (line : Line) (r : Result Message Refusal) (a : Line) → ((x : Message) → r ≡ Ok x → l.at line ≡ x ∷ drop 1 (l.at line)) → taken_by a (Take line) (Some (take_outcome r)) ++ (cond (is_ok r) (with_take l line) l).at a ≡ l.at a ++ put_by a (Take line) (Some (take_outcome r))
+take_one : (l : Lines Message) (line : Line) (r : Result Message Refusal) (a : Line) → ((x : Message) → r ≡ Ok x → l.at line ≡ x ∷ drop 1 (l.at line)) → taken_by a (Take line) (Some (result_map_both Some (λ e. e) r)) ++ (cond (is_ok r) (with_take l line) l).at a ≡ l.at a ++ put_by a (Take line) (Some (result_map_both Some (λ e. e) r))
 take_one l line (Ok x) a h = take_line l line x a (h x refl) ∙ sym (append-nil (l.at a))
 take_one l line (Err e) a h = sym (append-nil (l.at a))
 

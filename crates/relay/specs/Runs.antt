@@ -1,5 +1,6 @@
 -- What steps on an exchange are answered and leave, by the lines that the exchange stands for.
 use Rattle.std.specs.Prelude.{◌≡◌, if◌then◌else◌, List, [], ◌∷◌, ◌++◌, is_ok, Ok, Err, Result, Some, None, Option}
+use Rattle.std.specs.Result.{result_map_both}
 use Rattle.exchange.specs.Lines.{Lines, same_line, with_put, with_take}
 use Rattle.exchange.specs.Answers.{put_answer, take_answer}
 use Rattle.exchange.specs.declared.lines.Line.{Line}
@@ -7,24 +8,16 @@ use Rattle.exchange.specs.declared.messages.Message.{Message}
 use Rattle.exchange.specs.declared.refusals.Refusal.{Refusal}
 use Rattle.relay.specs.declared.steps.Step.{Step}
 use Rattle.relay.specs.declared.steps.Step.TheVariants.{Put, Take}
-use Rattle.relay.specs.declared.outcomes.Outcome.{Outcome}
-use Rattle.relay.specs.declared.outcomes.Outcome.TheVariants.{Accepted, Taken, Refused}
 use Rattle.relay.specs.declared.entries.Entry.{Entry}
 
--- the outcome of a put that was answered so
-abbrev pub put_outcome : Result (Unit {0}) Refusal → Outcome
-put_outcome (Ok u) = Accepted
-put_outcome (Err e) = Refused e
-
--- the outcome of a take that was answered so
-abbrev pub take_outcome : Result Message Refusal → Outcome
-take_outcome (Ok m) = Taken m
-take_outcome (Err e) = Refused e
+-- what became of a step: a take has a message, a put has none
+abbrev pub Outcome : Type 0
+Outcome = Result (Option Message) Refusal
 
 -- what becomes of a step on these lines
 abbrev pub outcome_of : Lines Message → Step → Outcome
-outcome_of l (Put line m) = put_outcome (put_answer l line)
-outcome_of l (Take line) = take_outcome (take_answer l line)
+outcome_of l (Put line m) = result_map_both (λ u. None) (λ e. e) (put_answer l line)
+outcome_of l (Take line) = result_map_both Some (λ e. e) (take_answer l line)
 
 -- the lines after it
 abbrev pub lines_after : Lines Message → Step → Lines Message
@@ -52,18 +45,18 @@ lines_after_all l (e ∷ es) = lines_after_all (lines_after l e.step) es
 -- what a step with this outcome, or one that has not been made, put on the line a
 abbrev pub put_by : Line → Step → Option Outcome → List Message
 put_by a (Put line m) None = []
-put_by a (Put line m) (Some Accepted) = if same_line a line then m ∷ [] else []
-put_by a (Put line m) (Some (Taken x)) = []
-put_by a (Put line m) (Some (Refused e)) = []
+put_by a (Put line m) (Some (Ok None)) = if same_line a line then m ∷ [] else []
+put_by a (Put line m) (Some (Ok (Some x))) = []
+put_by a (Put line m) (Some (Err e)) = []
 put_by a (Take line) o = []
 
 -- what it took from there
 abbrev pub taken_by : Line → Step → Option Outcome → List Message
 taken_by a (Put line m) o = []
 taken_by a (Take line) None = []
-taken_by a (Take line) (Some Accepted) = []
-taken_by a (Take line) (Some (Taken x)) = if same_line a line then x ∷ [] else []
-taken_by a (Take line) (Some (Refused e)) = []
+taken_by a (Take line) (Some (Ok None)) = []
+taken_by a (Take line) (Some (Ok (Some x))) = if same_line a line then x ∷ [] else []
+taken_by a (Take line) (Some (Err e)) = []
 
 -- the messages that a log tells of, entry after entry
 abbrev pub all_by : (Step → Option Outcome → List Message) → List Entry → List Message

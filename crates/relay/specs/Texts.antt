@@ -1,10 +1,9 @@
 -- How steps and their outcomes are written for a person to read.
-use Rattle.std.specs.Prelude.{ℕ, List, ◌++◌, codes, Some, None, Option}
+use Rattle.std.specs.Prelude.{ℕ, List, ◌++◌, codes, Ok, Err, Some, None, Option}
 use Rattle.exchange.specs.Texts.{line_text, message_text, refusal_text}
 use Rattle.relay.specs.declared.steps.Step.{Step}
 use Rattle.relay.specs.declared.steps.Step.TheVariants.{Put, Take}
-use Rattle.relay.specs.declared.outcomes.Outcome.{Outcome}
-use Rattle.relay.specs.declared.outcomes.Outcome.TheVariants.{Accepted, Taken, Refused}
+use Rattle.relay.specs.Runs.{Outcome}
 use Rattle.relay.specs.declared.entries.Entry.{Entry}
 
 -- a step
@@ -14,9 +13,9 @@ step_text (Take line) = codes "take " ++ line_text line
 
 -- what became of it
 abbrev pub outcome_text : Outcome → List ℕ
-outcome_text Accepted = codes "ok"
-outcome_text (Taken m) = message_text m
-outcome_text (Refused e) = codes "refused " ++ refusal_text e
+outcome_text (Ok None) = codes "ok"
+outcome_text (Ok (Some m)) = message_text m
+outcome_text (Err e) = codes "refused " ++ refusal_text e
 
 -- the same, if the step has been made
 abbrev pub made_text : Option Outcome → List ℕ

@@ -1,11 +1,9 @@
-ghost use Rattle.std.specs.Prelude.{◌≡◌, map, IfOk, Some};
+ghost use Rattle.std.specs.Prelude.{◌≡◌, map, IfOk, Some, Err};
 ghost use Rattle.exchange.specs.declared.refusals.Refusal.{Refusal};
-ghost use Rattle.relay.specs.declared.outcomes.Outcome.TheVariants.{Refused};
 ghost use Rattle.relay.specs.Runs.{pending, made_on, lines_after};
 ghost use Rattle.relay.specs.Texts.{entry_text};
 
-use crate::outcomes::Outcome;
-use crate::steps::Step;
+use crate::steps::{Outcome, Step};
 use exchange::{Exchange, Message};
 use std::alloc::{AllocError, Global};
 use std::fmt;
@@ -29,7 +27,7 @@ impl Entry {
     pub fn make<E: Exchange<Message = Message>>(&mut self, exchange: &mut E)
         ensures entry { self.new ≡ made_on (E.lines exchange.old) self.old }
         ensures lines { E.lines exchange.new ≡ lines_after (E.lines exchange.old) self.old.step }
-        ensures refused { (e : Refusal) → self.new.outcome ≡ Some (Refused e) → exchange.new ≡ exchange.old }
+        ensures refused { (e : Refusal) → self.new.outcome ≡ Some (Err e) → exchange.new ≡ exchange.old }
     {
         self.outcome = Some(self.step.make(exchange));
     }
@@ -52,8 +50,10 @@ impl fmt::Display for Entry {
 
     fn fmt<W: fmt::Write>(&self, f: &mut fmt::Formatter<W>) -> fmt::Result {
         match self.outcome {
-            Some(outcome) => write!(f, "{}: {outcome}", self.step),
             None => write!(f, "{}: not made", self.step),
+            Some(Ok(None)) => write!(f, "{}: ok", self.step),
+            Some(Ok(Some(message))) => write!(f, "{}: {message}", self.step),
+            Some(Err(refusal)) => write!(f, "{}: refused {refusal}", self.step),
         }
     }
 }

@@ -4,7 +4,6 @@
 mod carrying;
 mod entries;
 mod list;
-mod outcomes;
 mod steps;
 
 use crate::carrying::carry;

@@ -1,30 +1,33 @@
-ghost use Rattle.std.specs.Prelude.{◌≡◌, Some};
-ghost use Rattle.exchange.specs.declared.refusals.Refusal.{Refusal};
+ghost use Rattle.std.specs.Prelude.{◌≡◌, OnErr, Some};
 ghost use Rattle.relay.specs.Texts.{step_text};
-ghost use Rattle.relay.specs.declared.outcomes.Outcome.TheVariants.{Refused};
 ghost use Rattle.relay.specs.Runs.{outcome_of, lines_after};
 
-use crate::outcomes::Outcome;
-use exchange::{Exchange, Line, Message};
+use exchange::{Exchange, Line, Message, Refusal};
 use std::fmt;
 
-/// One call on an exchange. Steps are data, since a log keeps, compares and prints them; a closure could only be called.
+/// One call on an exchange. Steps are data, since a log keeps and prints them; a closure could only be called.
 #[derive(Clone, Copy, PartialEq, Eq, Debug)]
 pub enum Step {
     Put(Line, Message),
     Take(Line),
 }
 
+/// What became of a step: a take has a message, a put has none.
+pub type Outcome = Result<Option<Message>, Refusal>;
+
 impl Step {
     /// Makes the step, and answers what became of it.
     pub fn make<E: Exchange<Message = Message>>(self, exchange: &mut E) -> Outcome
         ensures outcome { result ≡ outcome_of (E.lines exchange.old) self }
         ensures lines { E.lines exchange.new ≡ lines_after (E.lines exchange.old) self }
-        ensures refused { (e : Refusal) → result ≡ Refused e → exchange.new ≡ exchange.old }
+        ensures refused { OnErr result (exchange.new ≡ exchange.old) }
     {
         match self {
-            Step::Put(line, message) => exchange.put(line, message).into(),
-            Step::Take(line) => exchange.take(line).into(),
+            Step::Put(line, message) => {
+                exchange.put(line, message)?;
+                Ok(None)
+            }
+            Step::Take(line) => Ok(Some(exchange.take(line)?)),
         }
     }
 }

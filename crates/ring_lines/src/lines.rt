@@ -30,6 +30,8 @@ impl<'a, K: Copy> RingLines<'a, K> {
     ghost use Rattle.exchange.specs.declared.lines.Line.{Line};
     ghost use Rattle.ring_lines.specs.Meaning.{queue_of, ring_lines};
 
+    // Two numbers and no struct of them, which would be built for `check` and `make` alone.
+
     /// Whether lines of so many places can be made for so many bays in the memory.
     pub fn check(memory: &[K], bays: u16, places: u16) -> Result<(), Refusal>
         ensures { result ≡ check_answer (length memory.now) bays places }
