@@ -7,7 +7,8 @@ use Rattle.bank.specs.declared.rings.Ring.{Ring}
 abbrev pub ring_of : List Ring → ℕ → Ring
 ring_of rings q = slice_index_or rings q (record { first = 0; waiting = 0 })
 
--- the list of queue q among the first `queues` queues, oldest record first, by the memory and the rings; past them there is nothing
+-- the list of queue q among the first `queues` queues, oldest record first, by the memory and the rings; past them there is nothing.
+-- Of parts, not of a bank, since lemmas speak of them half-way through a call
 unfoldable pub list_in : {T : Type 0} → List T → ℕ → ℕ → List Ring → ℕ → List T
 list_in memory queues places rings q =
     if nat_lt q queues then cells memory (place places q (ring_of rings q).first) (ring_of rings q).waiting else []

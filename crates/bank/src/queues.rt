@@ -60,6 +60,7 @@ impl<'a, T: Copy> Bank<'a, T> {
         ensures memory { memory_of result ≡ memory.old }
         ensures empty { (q : ℕ) → queue result q ≡ [] }
     {
+        // a making never refuses, so refused numbers become none
         let (queues, places) = match Bank::check(memory, queues, places) {
             Ok(()) => (queues, places),
             Err(_) => (0, 0),

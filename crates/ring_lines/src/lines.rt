@@ -50,6 +50,7 @@ impl<'a, K: Copy> RingLines<'a, K> {
         ensures memory { memory_of result.bank ≡ memory.old }
         ensures empty { (line : Line) → (ring_lines result).at line ≡ [] }
     {
+        // a making never refuses, so refused numbers become none
         let bays = match RingLines::check(memory, bays, places) {
             Ok(()) => bays,
             Err(_) => 0,
