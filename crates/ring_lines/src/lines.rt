@@ -28,7 +28,7 @@ impl<'a, K: Copy> RingLines<'a, K> {
     ghost use Rattle.bank.specs.Answers.{made};
     ghost use Rattle.exchange.specs.Answers.{check_answer, on_line};
     ghost use Rattle.exchange.specs.declared.lines.Line.{Line};
-    ghost use Rattle.ring_lines.specs.Meaning.{queue_of, ring_lines};
+    ghost use Rattle.ring_lines.specs.Meaning.{bank_of, queue_of, ring_lines};
 
     // Two numbers and no struct of them, which would be built for `check` and `make` alone.
 
@@ -46,8 +46,8 @@ impl<'a, K: Copy> RingLines<'a, K> {
     pub fn make(memory: &'a mut [K], bays: u16, places: u16) -> Self
         ensures bays { (ring_lines result).bays ≡ made (check_answer (length memory.old) bays places) bays }
         ensures places { (ring_lines result).places ≡ made (check_answer (length memory.old) bays places) places }
-        ensures lender { lender_of result.bank ≡ memory.entry.ghost_name }
-        ensures memory { memory_of result.bank ≡ memory.old }
+        ensures lender { lender_of (bank_of result) ≡ memory.entry.ghost_name }
+        ensures memory { memory_of (bank_of result) ≡ memory.old }
         ensures empty { (line : Line) → (ring_lines result).at line ≡ [] }
     {
         // a making never refuses, so refused numbers become none
@@ -80,7 +80,7 @@ impl<'a, K: Copy> Exchange for RingLines<'a, K> {
     ghost use Rattle.bank.specs.Changes.{Added, Removed};
     ghost use Rattle.exchange.specs.Lines.{with_put, with_take};
     ghost use Rattle.exchange.specs.Answers.{put_answer, take_answer};
-    ghost use Rattle.ring_lines.specs.Meaning.{queue_of, ring_lines};
+    ghost use Rattle.ring_lines.specs.Meaning.{bank_of, queue_of, ring_lines};
     ghost use Rattle.ring_lines.specs.Laws.{ring_short, ring_outside};
 
     type Message = K;
@@ -107,7 +107,7 @@ impl<'a, K: Copy> Exchange for RingLines<'a, K> {
         ensures answer { result ≡ put_answer (ring_lines self.old) line }
         ensures refused { OnErr result (self.new ≡ self.old) }
         ensures after { OnOk result (ring_lines self.new ≡ with_put (ring_lines self.old) line message) }
-        ensures bank { OnOk result (Added self.old.bank self.new.bank (queue_of (ring_lines self.old).bays line) message) }
+        ensures bank { OnOk result (Added (bank_of self.old) (bank_of self.new) (queue_of (ring_lines self.old).bays line) message) }
     {
         let q = self.queue(line)?;
         Ok(self.bank.put(q, message)?)
@@ -119,7 +119,7 @@ impl<'a, K: Copy> Exchange for RingLines<'a, K> {
         ensures answer { result ≡ take_answer (ring_lines self.old) line }
         ensures refused { OnErr result (self.new ≡ self.old) }
         ensures after { OnOk result (ring_lines self.new ≡ with_take (ring_lines self.old) line) }
-        ensures bank { OnOk result (Removed self.old.bank self.new.bank (queue_of (ring_lines self.old).bays line)) }
+        ensures bank { OnOk result (Removed (bank_of self.old) (bank_of self.new) (queue_of (ring_lines self.old).bays line)) }
     {
         let q = self.queue(line)?;
         Ok(self.bank.take(q)?)
