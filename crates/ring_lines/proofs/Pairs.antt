@@ -31,7 +31,7 @@ pub queue_below : (n : ℕ) (line : Line) → Pair n line → queue_of n line < 
 queue_below n line p = omega (arith, mul-add-lt line.from (n - 1) (column line) n p.from (column_below n line p), mul_comm n (n - 1))
 
 -- two lines share no queue
-queue_same : (n : ℕ) (a b : Line) → Pair n a → Pair n b → queue_of n a ≡ queue_of n b → a ≡ b
+pub queue_same : (n : ℕ) (a b : Line) → Pair n a → Pair n b → queue_of n a ≡ queue_of n b → a ≡ b
 queue_same n a b p r e =
     let u = column_below n a p in
     let v = column_below n b r in

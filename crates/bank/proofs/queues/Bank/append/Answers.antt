@@ -1,7 +1,8 @@
-use Rattle.std.proofs.Common.{length-set, refl, arith, rules}
-use Rattle.bank.specs.Rings.{ring_of}
+use Rattle.std.proofs.Common.{◌+◌, set, length-set, sym, refl, ap, ◌∙◌, arith, rules}
+use Rattle.std.proofs.Math.Nat.{min-eq_left}
+use Rattle.bank.specs.Rings.{ring_of, list_in}
 use Rattle.bank.specs.Meaning.{memory_of}
-use Rattle.bank.proofs.Lists.{list_put, short_set}
+use Rattle.bank.proofs.Lists.{ring, list_put, short_set}
 use Rattle.bank.proofs.Banks.{length_queue, next_free}
 use Rattle.bank.proofs.queues.Bank.append.Goals as goal
 
@@ -31,6 +32,8 @@ returns g c =
         queues = refl;
         places = refl;
         lender = refl;
-        lists = λ j. list_put (memory_of b) b.queues b.places b.rings q r.first r.waiting c.requires.queue refl b.room (search rules) c.args.item c.place-at.result j at (omega arith);
+        lists = λ j.
+            ap (λ i. list_in (set (memory_of b) i c.args.item) b.queues b.places (set b.rings q (ring r.first (r.waiting + 1))) j) at
+            ∙ list_put (memory_of b) b.queues b.places b.rings q r.waiting c.requires.queue (sym (min-eq_left (b.short q))) b.room (search rules) c.args.item j (omega arith);
       };
     }
