@@ -102,7 +102,7 @@ impl<'a, K: Copy> Exchange for RingLines<'a, K> {
     }
 
     // The line's queue gets the message, and no other queue changes. (An `impl` that adds a clause says the trait's again.)
-    #[tactic(auto, using(crate::proofs::Found::refused, crate::proofs::Found::put_is))]
+    #[tactic(auto, using(crate::proofs::Found::refused, crate::proofs::Found::put_is, crate::proofs::Found::kept))]
     fn put(&mut self, line: Line, message: K) -> Result<(), Refusal>
         ensures answer { result ≡ put_answer (ring_lines self.old) line }
         ensures refused { OnErr result (self.new ≡ self.old) }
@@ -114,7 +114,7 @@ impl<'a, K: Copy> Exchange for RingLines<'a, K> {
     }
 
     // The line's queue loses its oldest message, and no other queue changes.
-    #[tactic(auto, using(crate::proofs::Found::refused, crate::proofs::Found::take_is))]
+    #[tactic(auto, using(crate::proofs::Found::refused, crate::proofs::Found::take_is, crate::proofs::Found::kept))]
     fn take(&mut self, line: Line) -> Result<K, Refusal>
         ensures answer { result ≡ take_answer (ring_lines self.old) line }
         ensures refused { OnErr result (self.new ≡ self.old) }
