@@ -23,18 +23,21 @@ pub struct RingLines<'a, K: Copy> {
 }
 
 impl<'a, K: Copy> RingLines<'a, K> {
-    ghost use Rattle.std.specs.Prelude.{◌≡◌, [], length, Ok};
+    ghost use Rattle.std.specs.Prelude.{◌≡◌, ◌≢◌, ◌≤◌, [], length, Ok, Err};
     ghost use Rattle.bank.specs.Meaning.{lender_of, memory_of};
     ghost use Rattle.bank.specs.Answers.{made};
     ghost use Rattle.exchange.specs.Answers.{check_answer, on_line};
     ghost use Rattle.exchange.specs.declared.lines.Line.{Line};
+    ghost use Rattle.exchange.specs.declared.refusals.Refusal.TheVariants.{Bays};
     ghost use Rattle.ring_lines.specs.Meaning.{bank_of, queue_of, ring_lines};
+    ghost use Rattle.ring_lines.specs.declared.lines.TheConstants.{FEWEST_BAYS, MOST_BAYS};
 
     // Two numbers and no struct of them, which would be built for `check` and `make` alone.
 
     /// Whether lines of so many places can be made for so many bays in the memory.
     pub fn check(memory: &[K], bays: u16, places: u16) -> Result<(), Refusal>
-        ensures { result ≡ check_answer (length memory.now) bays places }
+        ensures answer { result ≡ check_answer (length memory.now) bays places }
+        ensures allowed { FEWEST_BAYS ≤ bays → bays ≤ MOST_BAYS → result ≢ Err Bays }
     {
         if !(FEWEST_BAYS..=MOST_BAYS).contains(&bays) {
             return Err(Refusal::Bays);
