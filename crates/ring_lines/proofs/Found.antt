@@ -55,20 +55,20 @@ finds false false q e = refl
 
 -- ---- the queue q was found for a line
 module _ {K : Type 0} (x : RingLines K) (line : Line) (q : ℕ) (found : on_line (ring_lines x) line (Ok (queue_of x.bays line)) ≡ Ok q) where
-  leads : two_bays x.bays line ≡ true
+  pub leads : two_bays x.bays line ≡ true
   leads = (answered (ring_lines x) line (Ok (queue_of x.bays line)) q found).joins
 
-  place : queue_of x.bays line ≡ q
+  pub place : queue_of x.bays line ≡ q
   place = let e = (answered (ring_lines x) line (Ok (queue_of x.bays line)) q found).is in cc
 
-  inside : leb (queues_of x.bank) q ≡ false
+  pub inside : leb (queues_of x.bank) q ≡ false
   inside =
       let below = queue_below x.bays line (pair x.bays line leads) in
       let e = place in
       let all = x.pairs in
       lt-leb (queues_of x.bank) q (omega arith)
 
-  here : (ring_lines x).at line ≡ queue x.bank q
+  pub here : (ring_lines x).at line ≡ queue x.bank q
   here = cond-true (two_bays x.bays line) (queue x.bank (queue_of x.bays line)) [] leads ∙ ap (queue x.bank) place
 
   pub put_is : put_answer (ring_lines x) line ≡ line_answer (bank.put_answer x.bank q)
